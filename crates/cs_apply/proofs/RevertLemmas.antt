@@ -36,7 +36,7 @@ none_last : {X : Type 0} (xs ys : List X) (x : X) → xs ++ x ∷ ys ≡ [] → 
 none_last [] ys x e = cc
 none_last (y ∷ xs) ys x e = cc
 
--- where none is told none of the entries meets one
+-- where none is reported none of the entries meets one
 none_met_none : (s : State) (choose : Choices) (ps : List PlacedEntry) → flat_map (met_at s choose) ps ≡ [] → AllByRecursion (λ p. placed_kind s p ≡ None) ps
 none_met_none s choose [] e = tt
 none_met_none s choose (p ∷ ps) e = at (placed_kind s p) refl (none_met_none s choose ps)

@@ -13,8 +13,8 @@ ghost use Rattle.cs_apply_conflicts.specs.declared.conflict.Choice.TheVariants.{
 ghost use Rattle.cs_apply_conflicts.specs.declared.conflict.Noop.TheVariants.{Report as Reported};
 ghost use Rattle.cs_apply_rows.specs.declared.running.Direction.TheVariants.{Forward as ForwardRun, Inverse as InverseRun};
 ghost use Rattle.cs_apply.specs.Crash.{AppliesInto};
-ghost use Rattle.cs_apply_rows.specs.Tally.{Tells, is_listed};
-ghost use Rattle.cs_apply_rows.specs.Running.{Applies, AppliesCounted, AppliesTold, Refuses, AlwaysAborts, Leads};
+ghost use Rattle.cs_apply_rows.specs.Tally.{Tallies, is_listed};
+ghost use Rattle.cs_apply_rows.specs.Running.{Applies, AppliesCounted, AppliesTallied, Refuses, AlwaysAborts, Leads};
 ghost use Rattle.cs_apply_rows.specs.Running.{IsCaused, IsNamed, IsResource};
 ghost use Rattle.cs_apply_rows.specs.Writes.{IsFileWrite};
 
@@ -166,9 +166,9 @@ fn run<S: Alter, H: Fn(&Conflict) -> Choice>(
     written: Writings,
 ) -> Result<Tally, ApplyFault>
     requires callable { H.IsAlwaysCallable handler.now }
-    requires none { Tells written [] }
+    requires none { Tallies written [] }
     ensures applied { HasCleanDisk (state S.Store store.new) → IfOk result (λ tally.
-        AppliesTold (FnReturnsAt H.Fn handler.now) noop file.now direction (tables_in (state S.Store store.old).now)
+        AppliesTallied (FnReturnsAt H.Fn handler.now) noop file.now direction (tables_in (state S.Store store.old).now)
         tally (tables_in (state S.Store store.new).now)) }
     ensures listed { IfOk result (λ tally. is_listed tally.written ≡ is_listed written) }
     ensures refused { HasCleanDisk (state S.Store store.new) → IfErr result

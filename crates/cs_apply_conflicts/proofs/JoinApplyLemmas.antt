@@ -7,7 +7,7 @@ use Rattle.cs_wire_entries.specs.declared.entry.Entry.{Entry}
 use Rattle.cs_wire.specs.Entry.{IsEntry}
 use Rattle.cs_wire.specs.Changeset.{HeaderData, GroupData, IsGroup, IsChangeset}
 use Rattle.cs_apply_conflicts.specs.Judging.{judged, is_compatible}
-use Rattle.cs_group.specs.Joining.{entry_key, table_name, with_text, outcome, joined_entry, joined_entries, some_group, joined_group, joined, key_places, Agrees, AgreesWith, AreJoinable}
+use Rattle.cs_group.specs.Joining.{entry_key, table_name, with_text, outcome, joined_entry, joined_entries, some_group, joined_group, joined, key_marks, Agrees, AgreesWith, AreJoinable}
 use Rattle.cs_apply_conflicts.specs.JoinLaw.{JoinApplies}
 use Rattle.cs_apply_conflicts.proofs.EntryJoinLemmas.{LeftLeads, merged_leads}
 use Rattle.cs_group.proofs.FoundLemmas.{joined_found, found_joined}
@@ -21,7 +21,7 @@ use Rattle.cs_group.proofs.TextLemmas.{with_text-found, with_text-same}
 -- ---- the entries of one key
 
 -- under flags with the same key places an entry does the same
-led_same : (f g : List ℕ) (before after : Option (List OwnedValue)) (found : Option Entry) → key_places f ≡ key_places g → LeftLeads f before after found → LeftLeads g before after found
+led_same : (f g : List ℕ) (before after : Option (List OwnedValue)) (found : Option Entry) → key_marks f ≡ key_marks g → LeftLeads f before after found → LeftLeads g before after found
 led_same f g before after None e led = led
 led_same f g before after (Some entry) e led = record {
   finds = led.finds;
@@ -44,7 +44,7 @@ module _ (flags key : List ℕ) (before mid after : Option (List OwnedValue)) wh
 
 -- ---- the entries of one table
 
-module _ (first second : GroupData) (p : IsGroup first) (q : IsGroup second) (agree : key_places second.header.flags ≡ key_places first.header.flags) where
+module _ (first second : GroupData) (p : IsGroup first) (q : IsGroup second) (agree : key_marks second.header.flags ≡ key_marks first.header.flags) where
   abbrev flags : List ℕ
   flags = first.header.flags
 
@@ -71,7 +71,7 @@ module _ (first second : GroupData) (p : IsGroup first) (q : IsGroup second) (ag
 
 module _ (old mid new : State) (schemas : (table : List ℕ) → schema_at mid table ≡ schema_at old table) where
   -- groups of one table that agree are judged alike
-  judged_alike : (name : List ℕ) (g h : GroupData) → g.header.name ≡ name → h.header.name ≡ name → key_places h.header.flags ≡ key_places g.header.flags → judged mid h ≡ judged old g
+  judged_alike : (name : List ℕ) (g h : GroupData) → g.header.name ≡ name → h.header.name ≡ name → key_marks h.header.flags ≡ key_marks g.header.flags → judged mid h ≡ judged old g
   judged_alike name g h g_is h_is agree =
       rw (g_is, h_is, schemas name) (judgement_same h.header.flags g.header.flags (option_map (λ (s : SchemaData). s.flags) (schema_at old name)) agree)
 
@@ -106,7 +106,7 @@ module _ (old mid new : State) (schemas : (table : List ℕ) → schema_at mid t
     }
 
     -- a group of each
-    both_lead : (g h : GroupData) → IsGroup g → IsGroup h → key_places h.header.flags ≡ key_places g.header.flags → GroupLeads old mid name g → GroupLeads mid new name h
+    both_lead : (g h : GroupData) → IsGroup g → IsGroup h → key_marks h.header.flags ≡ key_marks g.header.flags → GroupLeads old mid name g → GroupLeads mid new name h
         → GroupLeads old new name (record { header = g.header; entries = joined_entries g.header.flags g.entries h.entries })
     both_lead g h p q agree one two =
         let alike : judged mid h ≡ judged old g = judged_alike name g h one.named two.named agree in

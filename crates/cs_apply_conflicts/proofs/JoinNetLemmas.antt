@@ -16,7 +16,7 @@ use Rattle.cs_wire.specs.Changeset.{HeaderData, GroupData, IsGroup, IsChangeset}
 use Rattle.cs_apply_conflicts.specs.declared.conflict.Kind.TheVariants.{NotFound, Conflict}
 use Rattle.cs_group.specs.Net.{is_same, unless_same, by_flag, by_column, old_record, new_record, net_between, net_change, net_row_change, net_entry}
 use Rattle.cs_apply_conflicts.specs.Conflicts.{has_values, filled, kind_between, row_after}
-use Rattle.cs_group.specs.Joining.{laid_over, joint_image, becomes, entry_key, table_name, with_text, outcome, left_of, joined_entry, joined_entries, some_group, joined_group, joined, key_places, AreJoinable}
+use Rattle.cs_group.specs.Joining.{laid_over, joint_image, becomes, entry_key, table_name, with_text, outcome, left_of, joined_entry, joined_entries, some_group, joined_group, joined, key_marks, AreJoinable}
 use Rattle.cs_apply_conflicts.specs.JoinLaw.{entry_in, HasColumns, IsNetOf, JoinNets}
 use Rattle.cs_group.proofs.ImageLemmas.{same_itself}
 use Rattle.cs_apply_conflicts.proofs.ConflictLemmas.{filled_row, all_values, no_data}
@@ -153,7 +153,7 @@ module _ (flags key : List ℕ) (before mid after : Option (List OwnedValue)) wh
 -- ---- flags with the same key places
 
 -- what is made column by column
-columns_same : (outside of_key : OwnedField → OwnedField → OwnedField) (f g : List ℕ) (before after : List OwnedField) → key_places f ≡ key_places g
+columns_same : (outside of_key : OwnedField → OwnedField → OwnedField) (f g : List ℕ) (before after : List OwnedField) → key_marks f ≡ key_marks g
     → by_column (λ flag b a. by_flag flag (outside b a) (of_key b a)) f before after ≡ by_column (λ flag b a. by_flag flag (outside b a) (of_key b a)) g before after
 columns_same outside of_key [] [] before after e = refl
 columns_same outside of_key [] (n ∷ g) before after e = absurd cc
@@ -161,14 +161,14 @@ columns_same outside of_key (m ∷ f) [] before after e = absurd cc
 columns_same outside of_key (m ∷ f) (n ∷ g) [] after e = refl
 columns_same outside of_key (m ∷ f) (n ∷ g) (b ∷ before) [] e = refl
 columns_same outside of_key (zero ∷ f) (zero ∷ g) (b ∷ before) (a ∷ after) e =
-    let rest : key_places f ≡ key_places g = cc in ap (λ (l : List OwnedField). outside b a ∷ l) (columns_same outside of_key f g before after rest)
+    let rest : key_marks f ≡ key_marks g = cc in ap (λ (l : List OwnedField). outside b a ∷ l) (columns_same outside of_key f g before after rest)
 columns_same outside of_key (suc m ∷ f) (suc n ∷ g) (b ∷ before) (a ∷ after) e =
-    let rest : key_places f ≡ key_places g = cc in ap (λ (l : List OwnedField). of_key b a ∷ l) (columns_same outside of_key f g before after rest)
+    let rest : key_marks f ≡ key_marks g = cc in ap (λ (l : List OwnedField). of_key b a ∷ l) (columns_same outside of_key f g before after rest)
 columns_same outside of_key (zero ∷ f) (suc n ∷ g) (b ∷ before) (a ∷ after) e = absurd cc
 columns_same outside of_key (suc m ∷ f) (zero ∷ g) (b ∷ before) (a ∷ after) e = absurd cc
 
 -- the net change of a row is the same
-net_row_change_same : (f g : List ℕ) (before after : Option (List OwnedValue)) → key_places f ≡ key_places g → net_row_change f before after ≡ net_row_change g before after
+net_row_change_same : (f g : List ℕ) (before after : Option (List OwnedValue)) → key_marks f ≡ key_marks g → net_row_change f before after ≡ net_row_change g before after
 net_row_change_same f g None None e = refl
 net_row_change_same f g None (Some after) e = refl
 net_row_change_same f g (Some before) None e = refl
@@ -177,11 +177,11 @@ net_row_change_same f g (Some before) (Some after) e =
     let a = map Defined after in
     rw (columns_same (λ x y. unless_same x y x) (λ x y. x) f g b a e, columns_same (λ x y. unless_same x y y) (λ x y. Undefined) f g b a e) refl
 
-net_entry_same : (f g : List ℕ) (before after : Option (List OwnedValue)) → key_places f ≡ key_places g → net_entry f before after ≡ net_entry g before after
+net_entry_same : (f g : List ℕ) (before after : Option (List OwnedValue)) → key_marks f ≡ key_marks g → net_entry f before after ≡ net_entry g before after
 net_entry_same f g before after e = ap as_entry (net_row_change_same f g before after e)
 
 -- and a row that stands under a key, if there is one, does so too
-rows_same : (f g key : List ℕ) (row : Option (List OwnedValue)) → key_places f ≡ key_places g → IfSome row (IsRowUnder f key) → IfSome row (IsRowUnder g key)
+rows_same : (f g key : List ℕ) (row : Option (List OwnedValue)) → key_marks f ≡ key_marks g → IfSome row (IsRowUnder f key) → IfSome row (IsRowUnder g key)
 rows_same f g key None e is = tt
 rows_same f g key (Some row) e is = row_under_same f g key row e is
 
@@ -193,7 +193,7 @@ some_group_entry key header [] = refl
 some_group_entry key header (e ∷ entries) = refl
 
 -- what two groups of the same columns have of a key together
-groups_join : (key : List ℕ) (g h : GroupData) → IsGroup g → IsGroup h → key_places h.header.flags ≡ key_places g.header.flags
+groups_join : (key : List ℕ) (g h : GroupData) → IsGroup g → IsGroup h → key_marks h.header.flags ≡ key_marks g.header.flags
     → entry_in key (joined_group g (Some h)) ≡ joined_found (joined_entry g.header.flags) (entry_in key (Some g)) (entry_in key (Some h))
 groups_join key g h p q agree =
     let flags = g.header.flags in
@@ -214,14 +214,14 @@ alone flags (Some e) = refl
 
 -- a group has the key places of its table
 places_of : (state : State) (name : List ℕ) (schema : SchemaData) (group : GroupData) → schema_at state name ≡ Some schema → HasColumns state group → group.header.name ≡ name
-    → key_places group.header.flags ≡ key_places schema.flags
+    → key_marks group.header.flags ≡ key_marks schema.flags
 places_of state name schema group found has named =
     let same = same_Some has.schema schema (sym has.found ∙ ap (schema_at state) named ∙ found) in
-    has.same ∙ ap (λ (s : SchemaData). key_places s.flags) same
+    has.same ∙ ap (λ (s : SchemaData). key_marks s.flags) same
 
 module _ (flags key : List ℕ) (before mid after : Option (List OwnedValue)) (b : IfSome before (IsRowUnder flags key)) (m : IfSome mid (IsRowUnder flags key)) (a : IfSome after (IsRowUnder flags key)) where
   -- under flags with the same key places
-  found_join : (f : List ℕ) → key_places f ≡ key_places flags → (first second : Option Entry) → first ≡ net_entry flags before mid → second ≡ net_entry flags mid after
+  found_join : (f : List ℕ) → key_marks f ≡ key_marks flags → (first second : Option Entry) → first ≡ net_entry flags before mid → second ≡ net_entry flags mid after
       → joined_found (joined_entry f) first second ≡ net_entry flags before after
   found_join f e first second one two =
       rw (one ∙ sym (net_entry_same f flags before mid e), two ∙ sym (net_entry_same f flags mid after e))
@@ -229,7 +229,7 @@ module _ (flags key : List ℕ) (before mid after : Option (List OwnedValue)) (b
       ∙ net_entry_same f flags before after e)
 
   -- what two groups of a table, or none, have of a key together
-  tables_join : (g h : Option GroupData) → IfSome g (λ g. IsGroup g × (key_places g.header.flags ≡ key_places flags)) → IfSome h (λ h. IsGroup h × (key_places h.header.flags ≡ key_places flags))
+  tables_join : (g h : Option GroupData) → IfSome g (λ g. IsGroup g × (key_marks g.header.flags ≡ key_marks flags)) → IfSome h (λ h. IsGroup h × (key_marks h.header.flags ≡ key_marks flags))
       → entry_in key g ≡ net_entry flags before mid → entry_in key h ≡ net_entry flags mid after → entry_in key (joined_found joined_group g h) ≡ net_entry flags before after
   tables_join None h p q one two = found_join flags refl None (entry_in key h) one two
   tables_join (Some g) None p q one two = alone g.header.flags (entry_in key (Some g)) ∙ found_join g.header.flags p.1 (entry_in key (Some g)) None one two
@@ -239,11 +239,11 @@ module _ (flags key : List ℕ) (before mid after : Option (List OwnedValue)) (b
 
 -- what is found of a table has its key places
 found_places : (state : State) (name : List ℕ) (schema : SchemaData) (changeset : List GroupData) → schema_at state name ≡ Some schema → IsChangeset changeset → All (HasColumns state) changeset
-    → IfSome (with_text table_name changeset name) (λ g. IsGroup g × (key_places g.header.flags ≡ key_places schema.flags))
+    → IfSome (with_text table_name changeset name) (λ g. IsGroup g × (key_marks g.header.flags ≡ key_marks schema.flags))
 found_places state name schema changeset found is has =
     turned (with_text table_name changeset name) (with_text-found table_name (λ g. IsGroup g × HasColumns state g) changeset name (λ k d lt. (is.each k d lt, has k d lt)))
   where
-    turned : (o : Option GroupData) → IfSome o (λ g. (IsGroup g × HasColumns state g) × (g.header.name ≡ name)) → IfSome o (λ g. IsGroup g × (key_places g.header.flags ≡ key_places schema.flags))
+    turned : (o : Option GroupData) → IfSome o (λ g. (IsGroup g × HasColumns state g) × (g.header.name ≡ name)) → IfSome o (λ g. IsGroup g × (key_marks g.header.flags ≡ key_marks schema.flags))
     turned None h = tt
     turned (Some g) h = (h.0.0, places_of state name schema g found h.0.1 h.1)
 

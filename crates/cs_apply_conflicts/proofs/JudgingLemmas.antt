@@ -4,7 +4,7 @@ use Rattle.std.proofs.lemmas.List.{drop_all}
 use Rattle.std.proofs.Math.Bool.{beq}
 use Rattle.cs_group.specs.Net.{by_flag}
 use Rattle.cs_apply_conflicts.specs.Judging.{leads, judgement}
-use Rattle.cs_group.specs.Joining.{key_places}
+use Rattle.cs_group.specs.Joining.{key_marks}
 
 -- fewer columns than those that lead
 pub too_few : (flags table : List ℕ) → length table < length flags → leads flags table ≡ false
@@ -43,26 +43,26 @@ leads_by flags table i a b differ lt m p q e =
 -- ---- by the places of the key
 
 -- they lead the same
-leads_same : (f g table : List ℕ) → key_places f ≡ key_places g → leads f table ≡ leads g table
+leads_same : (f g table : List ℕ) → key_marks f ≡ key_marks g → leads f table ≡ leads g table
 leads_same [] [] table e = refl
 leads_same [] (b ∷ g) table e = absurd cc
 leads_same (a ∷ f) [] table e = absurd cc
 leads_same (a ∷ f) (b ∷ g) [] e = refl
-leads_same (zero ∷ f) (zero ∷ g) (zero ∷ table) e = let rest : key_places f ≡ key_places g = cc in leads_same f g table rest
+leads_same (zero ∷ f) (zero ∷ g) (zero ∷ table) e = let rest : key_marks f ≡ key_marks g = cc in leads_same f g table rest
 leads_same (zero ∷ f) (zero ∷ g) (suc t ∷ table) e = refl
 leads_same (suc a ∷ f) (suc b ∷ g) (zero ∷ table) e = refl
-leads_same (suc a ∷ f) (suc b ∷ g) (suc t ∷ table) e = let rest : key_places f ≡ key_places g = cc in leads_same f g table rest
+leads_same (suc a ∷ f) (suc b ∷ g) (suc t ∷ table) e = let rest : key_marks f ≡ key_marks g = cc in leads_same f g table rest
 leads_same (zero ∷ f) (suc b ∷ g) (t ∷ table) e = absurd cc
 leads_same (suc a ∷ f) (zero ∷ g) (t ∷ table) e = absurd cc
 
 -- and have as many
-width_same : (f g : List ℕ) → key_places f ≡ key_places g → length f ≡ length g
+width_same : (f g : List ℕ) → key_marks f ≡ key_marks g → length f ≡ length g
 width_same [] [] e = refl
 width_same [] (b ∷ g) e = absurd cc
 width_same (a ∷ f) [] e = absurd cc
-width_same (a ∷ f) (b ∷ g) e = let rest : key_places f ≡ key_places g = cc in ap suc (width_same f g rest)
+width_same (a ∷ f) (b ∷ g) e = let rest : key_marks f ≡ key_marks g = cc in ap suc (width_same f g rest)
 
 -- changes of the same columns with the same key are judged alike
-pub judgement_same : (f g : List ℕ) (table : Option (List ℕ)) → key_places f ≡ key_places g → judgement f table ≡ judgement g table
+pub judgement_same : (f g : List ℕ) (table : Option (List ℕ)) → key_marks f ≡ key_marks g → judgement f table ≡ judgement g table
 judgement_same f g None e = refl
 judgement_same f g (Some table) e = rw (leads_same f g table e, width_same f g e) refl

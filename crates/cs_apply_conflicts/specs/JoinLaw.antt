@@ -3,7 +3,7 @@ use Rattle.std.specs.Prelude.{◌≡◌, ℕ, List, All, Option, Some, None}
 use Rattle.cs_value.specs.State.{SchemaData, State, IsState, schema_at, row_at}
 use Rattle.cs_wire_entries.specs.declared.entry.Entry.{Entry}
 use Rattle.cs_wire.specs.Changeset.{GroupData, IsChangeset}
-use Rattle.cs_group.specs.Joining.{entry_key, table_name, with_text, key_places, IsJoined}
+use Rattle.cs_group.specs.Joining.{entry_key, table_name, with_text, key_marks, IsJoined}
 use Rattle.cs_group.specs.Net.{net_entry}
 use Rattle.cs_apply_conflicts.specs.Applying.{Choices, IsClean, IsApplied}
 
@@ -30,7 +30,7 @@ entry_at changeset name key = entry_in key (with_text table_name changeset name)
 pub record HasColumns (state : State) (group : GroupData) : Type 0 where
   pub schema : SchemaData
   pub found : schema_at state group.header.name ≡ Some schema
-  pub same : key_places group.header.flags ≡ key_places schema.flags
+  pub same : key_marks group.header.flags ≡ key_marks schema.flags
 
 -- the changeset has exactly the net changes from a state to another, in any order of tables and keys
 pub record IsNetOf (old new : State) (changeset : List GroupData) : Type 0 where

@@ -17,7 +17,7 @@ use Rattle.cs_apply_conflicts.specs.declared.judging.Judgement.TheVariants.{Skip
 use Rattle.cs_apply_conflicts.specs.declared.conflict.Noop.{Noop}
 use Rattle.cs_apply_conflicts.specs.Judging.{judgement, judged, is_compatible, is_skipped}
 use Rattle.cs_apply_conflicts.specs.Applying.{PlacedEntry, placed, placed_by, placed_in, IsElsewhere, NoneWider, FirstWider, current, refuses_at, refused_at, applicable, heeded, heeded_of, ignored, ignored_of, skipped}
-use Rattle.cs_apply_rows.specs.declared.ending.Ending.{Ending}
+use Rattle.cs_apply_rows.specs.declared.halt.Halt.{Halt}
 use Rattle.cs_apply_rows.specs.declared.conflict.Met.{Met}
 use Rattle.cs_apply_rows.specs.declared.tally.Tally.{Tally}
 use Rattle.cs_apply_rows.specs.declared.run.Run.{Run}
@@ -107,7 +107,7 @@ carries_same chooses ps a b r s t one conflicts written = record {
   applied = one.applied;
   conflicts = ap (λ v. map met_of v.items) conflicts ∙ one.conflicts;
   chosen = λ all. rw conflicts (one.chosen all);
-  written = λ told was. rw written (one.written told was);
+  written = λ reported was. rw written (one.written reported was);
 }
 
 stops_same : (chooses : Handler) (ps : List PlacedEntry) (a : State) (r s t : Tally) (last : Met) → Stops chooses ps a r s last → t.conflicts ≡ s.conflicts → Stops chooses ps a r t last
@@ -163,7 +163,7 @@ module _ (s : State) (gs : List GroupData) (h : HeaderData) where
     came_now : next.wider ≡ None → CameTo chooses next.noop s opened is.start next.tally b next.ended
     came_now none = rw (takes.same, takes.ended, takes.noop) (by run.ended (is.came_to (was_none run.wider run.tables next.judgement (sym takes.wider ∙ none))))
       where
-        by : (o : Option Ending) → CameTo chooses run.noop s gs is.start run.tally a o → CameTo chooses run.noop s opened is.start next.tally a o
+        by : (o : Option Halt) → CameTo chooses run.noop s gs is.start run.tally a o → CameTo chooses run.noop s opened is.start next.tally a o
         by None came = (
           rw applicable_opened (carries_same chooses (heeded run.noop s gs) s a is.start run.tally next.tally came.0 takes.conflicts takes.written),
           takes.skipped ∙ ap (λ (l : List (List ℕ)). l ++ (if is_skipped next.judgement then h.name ∷ [] else [])) came.1
@@ -262,7 +262,7 @@ module _ (s : State) (closed : List GroupData) (h : HeaderData) (es : List Entry
       came_to = λ none. by none run.ended refl (is.came_to none);
     }
       where
-        by : run.wider ≡ None → (o : Option Ending) → run.ended ≡ o → CameTo chooses run.noop s here is.start run.tally a o → CameTo chooses run.noop s grown is.start run.tally a o
+        by : run.wider ≡ None → (o : Option Halt) → run.ended ≡ o → CameTo chooses run.noop s here is.start run.tally a o → CameTo chooses run.noop s grown is.start run.tally a o
         by none None goes_on came =
             let none_added : added ≡ [] =
             rw (is_passed its_judgement (λ compatible. passed (record { compatible = is_open.1 ∙ compatible; none_wider = none; goes_on = goes_on }))) refl in (
@@ -323,7 +323,7 @@ module _ (s : State) (closed : List GroupData) (h : HeaderData) (es : List Entry
             ∙ ignored_more run.noop s (applicable s here) (placed_by h e ∷ [])
             ∙ ap (λ (n : ℕ). ignored run.noop s here + n) (sym (ignored_same s (placed_by h e) a same_row same_rule run.noop))
 
-        by : (o : Option Ending) → ComesTo chooses run.noop (placed_by h e) a run.tally b next.tally o
+        by : (o : Option Halt) → ComesTo chooses run.noop (placed_by h e) a run.tally b next.tally o
             → ((t : List ℕ) → schema_at b t ≡ schema_at s t) × CameTo chooses run.noop s grown is.start next.tally b o
         by None two = (
           λ t. two.0.applied.schemas t ∙ is.schemas t,
@@ -343,7 +343,7 @@ module _ (s : State) (closed : List GroupData) (h : HeaderData) (es : List Entry
         )
 
 -- an entry leaves the schemas as they were
-pub comes_schemas : (chooses : Handler) (noop : Noop) (p : PlacedEntry) (a : State) (r : Tally) (b : State) (t : Tally) (o : Option Ending) → ComesTo chooses noop p a r b t o → (name : List ℕ) → schema_at b name ≡ schema_at a name
+pub comes_schemas : (chooses : Handler) (noop : Noop) (p : PlacedEntry) (a : State) (r : Tally) (b : State) (t : Tally) (o : Option Halt) → ComesTo chooses noop p a r b t o → (name : List ℕ) → schema_at b name ≡ schema_at a name
 comes_schemas chooses noop p a r b t None two name = two.0.applied.schemas name
 comes_schemas chooses noop p a r b t (Some ending) two name = ap (λ (n : State). schema_at n name) two.1
 

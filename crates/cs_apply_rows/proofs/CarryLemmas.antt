@@ -14,7 +14,7 @@ use Rattle.cs_apply_conflicts.specs.Applying.{PlacedEntry, placed_key, current, 
 use Rattle.cs_apply_rows.specs.declared.conflict.Met.{Met}
 use Rattle.cs_apply_rows.specs.declared.tally.Tally.{Tally}
 use Rattle.cs_apply_rows.specs.Report.{met_of}
-use Rattle.cs_apply_rows.specs.Tally.{Tells}
+use Rattle.cs_apply_rows.specs.Tally.{Tallies}
 use Rattle.cs_apply_rows.specs.Running.{Handler, GoesOn}
 use Rattle.cs_apply_rows.specs.Steps.{Settles, EndsAtEntry, Carries, Stops, with_result}
 use Rattle.cs_apply_rows.proofs.WriteLemmas.{result_schemas, result_here, result_elsewhere}
@@ -23,16 +23,16 @@ use Rattle.cs_apply_rows.proofs.WriteLemmas.{result_schemas, result_here, result
 abbrev for_each : (Kind → Choice) → Choices
 for_each choose p = choose
 
--- where the run went on at each conflict that was told, none of them ended it
-not_ended : (chooses : Handler) (p : PlacedEntry) (row : Option (List OwnedValue)) (choose : Kind → Choice) (kinds : List Kind) (told : List Met)
-    → map (λ kind. record { conflict = conflict_with p row kind; choice = choose kind }) kinds ≡ map met_of told → AllByRecursion (GoesOn chooses) told → is_ended kinds choose ≡ false
-not_ended chooses p row choose [] told e all = refl
+-- where the run went on at each conflict that was reported, none of them ended it
+not_ended : (chooses : Handler) (p : PlacedEntry) (row : Option (List OwnedValue)) (choose : Kind → Choice) (kinds : List Kind) (reported : List Met)
+    → map (λ kind. record { conflict = conflict_with p row kind; choice = choose kind }) kinds ≡ map met_of reported → AllByRecursion (GoesOn chooses) reported → is_ended kinds choose ≡ false
+not_ended chooses p row choose [] reported e all = refl
 not_ended chooses p row choose (kind ∷ kinds) [] e all = absurd (cc)
-not_ended chooses p row choose (kind ∷ kinds) (m ∷ told) e all =
+not_ended chooses p row choose (kind ∷ kinds) (m ∷ reported) e all =
     let first : record { conflict = conflict_with p row kind; choice = choose kind } ≡ met_of m = cc in
-    let rest : map (λ kind. record { conflict = conflict_with p row kind; choice = choose kind }) kinds ≡ map met_of told = cc in
+    let rest : map (λ kind. record { conflict = conflict_with p row kind; choice = choose kind }) kinds ≡ map met_of reported = cc in
     let here : ends kind (choose kind) ≡ false = ap (λ (n : MetData). ends n.conflict.kind n.choice) first ∙ all.0.goes_on in
-    rw (here, not_ended chooses p row choose kinds told rest all.1) refl
+    rw (here, not_ended chooses p row choose kinds reported rest all.1) refl
 
 module _ (chooses : Handler) (s : State) (p : PlacedEntry) (row : Option (List OwnedValue)) (r t : Tally) (is : row ≡ current s p) where
   -- the conflicts that the entry meets at that row
@@ -42,16 +42,16 @@ module _ (chooses : Handler) (s : State) (p : PlacedEntry) (row : Option (List O
   module _ (carried : Bool) (settles : Settles chooses (refused_at s p) p row r.conflicts.items t.conflicts.items carried) where
     told_so : map met_of t.conflicts.items ≡ map met_of r.conflicts.items ++ flat_map (met_at s (for_each settles.choose)) (p ∷ [])
     told_so =
-        ap (map met_of) settles.grown ∙ map-append met_of r.conflicts.items settles.told
-        ∙ ap (λ (l : List MetData). map met_of r.conflicts.items ++ l) (sym settles.all_told ∙ sym (met_here settles.choose))
+        ap (map met_of) settles.grown ∙ map-append met_of r.conflicts.items settles.reported
+        ∙ ap (λ (l : List MetData). map met_of r.conflicts.items ++ l) (sym settles.all_reported ∙ sym (met_here settles.choose))
 
     chosen_so : All (GoesOn chooses) r.conflicts.items → All (GoesOn chooses) t.conflicts.items
-    chosen_so all = rw (settles.grown) (All-append (GoesOn chooses) r.conflicts.items settles.told all settles.chosen)
+    chosen_so all = rw (settles.grown) (All-append (GoesOn chooses) r.conflicts.items settles.reported all settles.chosen)
 
     goes_on : is_ended (placed_kinds s (for_each settles.choose) p) settles.choose ≡ false
     goes_on =
         let kinds = kinds_met (refused_at s p) p.entry.change row settles.choose in
-        rw (← is) (not_ended chooses p row settles.choose kinds settles.told settles.all_told (recursion_from_All (GoesOn chooses) settles.told settles.chosen))
+        rw (← is) (not_ended chooses p row settles.choose kinds settles.reported settles.all_reported (recursion_from_All (GoesOn chooses) settles.reported settles.chosen))
 
     carried_so : is_carried_out (placed_kinds s (for_each settles.choose) p) settles.choose ≡ carried
     carried_so = rw (← is) (sym settles.carried)
@@ -59,7 +59,7 @@ module _ (chooses : Handler) (s : State) (p : PlacedEntry) (row : Option (List O
   -- an entry that is carried out
   pub carries_written : (found : TableData) (next : State) → get s p.table ≡ Some found → Settles chooses (refused_at s p) p row r.conflicts.items t.conflicts.items true
       → next ≡ with_result s p.table (placed_key p) (row_after p.flags p.entry.change row)
-      → ((told : List WrittenData) → Tells r.written told → Tells t.written (told ++ record { table = p.table; key = placed_key p; former = row } ∷ []))
+      → ((reported : List WrittenData) → Tallies r.written reported → Tallies t.written (reported ++ record { table = p.table; key = placed_key p; former = row } ∷ []))
       → Carries chooses (p ∷ []) s r next t
   carries_written found next there settles left written =
       let choose = settles.choose in
@@ -76,8 +76,8 @@ module _ (chooses : Handler) (s : State) (p : PlacedEntry) (row : Option (List O
         };
         conflicts = told_so true settles;
         chosen = chosen_so true settles;
-        written = λ told was.
-            subst (Tells t.written) (rw carried (ap (λ (o : Option (List OwnedValue)). told ++ record { table = p.table; key = placed_key p; former = o } ∷ []) is)) (written told was);
+        written = λ reported was.
+            subst (Tallies t.written) (rw carried (ap (λ (o : Option (List OwnedValue)). reported ++ record { table = p.table; key = placed_key p; former = o } ∷ []) is)) (written reported was);
       }
 
   -- an entry that is passed over
@@ -94,7 +94,7 @@ module _ (chooses : Handler) (s : State) (p : PlacedEntry) (row : Option (List O
         };
         conflicts = told_so false settles;
         chosen = chosen_so false settles;
-        written = λ told was. subst (Tells t.written) {x = told} (rw passed (sym (append-nil told))) (rw written was);
+        written = λ reported was. subst (Tallies t.written) {x = reported} (rw passed (sym (append-nil reported))) (rw written was);
       }
 
   -- an entry that is ignored tells nothing
@@ -108,7 +108,7 @@ module _ (chooses : Handler) (s : State) (p : PlacedEntry) (row : Option (List O
     };
     conflicts = ap (map met_of) conflicts ∙ sym (append-nil (map met_of r.conflicts.items));
     chosen = λ all. rw conflicts all;
-    written = λ told was. subst (Tells t.written) (sym (append-nil told)) (rw written was);
+    written = λ reported was. subst (Tallies t.written) (sym (append-nil reported)) (rw written was);
   }
 
   -- an entry that ends the run
@@ -116,11 +116,11 @@ module _ (chooses : Handler) (s : State) (p : PlacedEntry) (row : Option (List O
   stops_here last ended = record {
     choose = for_each ended.choose;
     later = [];
-    chosen = λ all. rw (ended.grown) (All-append (GoesOn chooses) r.conflicts.items ended.told all ended.chosen);
+    chosen = λ all. rw (ended.grown) (All-append (GoesOn chooses) r.conflicts.items ended.reported all ended.chosen);
     listed =
-        ap (λ (l : List MetData). map met_of r.conflicts.items ++ l) (met_here ended.choose ∙ ended.all_told)
-        ∙ sym (append_assoc (map met_of r.conflicts.items) (map met_of ended.told) (met_of last ∷ []))
-        ∙ ap (λ (l : List MetData). l ++ met_of last ∷ []) (sym (map-append met_of r.conflicts.items ended.told) ∙ sym (ap (map met_of) ended.grown));
+        ap (λ (l : List MetData). map met_of r.conflicts.items ++ l) (met_here ended.choose ∙ ended.all_reported)
+        ∙ sym (append_assoc (map met_of r.conflicts.items) (map met_of ended.reported) (met_of last ∷ []))
+        ∙ ap (λ (l : List MetData). l ++ met_of last ∷ []) (sym (map-append met_of r.conflicts.items ended.reported) ∙ sym (ap (map met_of) ended.grown));
     ended = ended.ended;
   }
 

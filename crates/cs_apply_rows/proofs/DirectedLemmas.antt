@@ -15,14 +15,14 @@ use Rattle.cs_wire_entries.proofs.InverseLemmas.{key_of-inverse}
 use Rattle.cs_rows.specs.declared.fault.Cause.{Cause}
 use Rattle.cs_group.specs.Inverse.{inverse_group}
 use Rattle.cs_group.proofs.InverseGroups.{groups_inverse, IsChangeset-inverse}
-use Rattle.cs_apply_rows.specs.declared.ending.Ending.{Ending}
-use Rattle.cs_apply_rows.specs.declared.ending.Ending.TheVariants.{Aborted, Misused}
+use Rattle.cs_apply_rows.specs.declared.halt.Halt.{Halt}
+use Rattle.cs_apply_rows.specs.declared.halt.Halt.TheVariants.{Aborted, Misused}
 use Rattle.cs_apply_rows.specs.declared.fault.ApplyFault.{ApplyFault}
 use Rattle.cs_apply_rows.specs.declared.tally.Tally.{Tally}
 use Rattle.cs_apply_rows.specs.declared.run.Run.{Run}
 use Rattle.cs_apply_rows.specs.declared.running.Direction.{Direction}
 use Rattle.cs_apply_rows.specs.declared.running.Direction.TheVariants.{Forward, Inverse}
-use Rattle.cs_apply_rows.specs.Running.{AppliesTold, Handler, IsCaused, IsNamed, IsReadAs, Refuses, directed}
+use Rattle.cs_apply_rows.specs.Running.{AppliesTallied, Handler, IsCaused, IsNamed, IsReadAs, Refuses, directed}
 use Rattle.cs_apply_rows.specs.Run.{IsBehind, IsNewEntry, answer_of, directed_entry, directed_group, group_of, outcome_of}
 use Rattle.cs_apply_rows.proofs.StepLemmas.{each_both}
 use Rattle.cs_apply_rows.proofs.BehindLemmas.{none_wider, some_wider}
@@ -72,9 +72,9 @@ read_as Inverse file gs is = (gs, is.0, is.1, (groups_inverse gs (recursion_from
 
 module _ (chooses : Handler) (d : Direction) (file : List ℕ) (gs : List GroupData) (s : State) (run : Run) (a : State) (read : IsReadAs file d gs) (is : IsBehind chooses s gs run a) where
   abbrev Outcome : Result Tally ApplyFault → Type 0
-  Outcome result = IfOk result (λ tally. AppliesTold chooses run.noop file d s tally a) × IfErr result (Refuses chooses run.noop file d s)
+  Outcome result = IfOk result (λ tally. AppliesTallied chooses run.noop file d s tally a) × IfErr result (Refuses chooses run.noop file d s)
 
-  by : (w : Option ℕ) (o : Option Ending) → run.wider ≡ w → run.ended ≡ o → Outcome (outcome_of w o run.tally)
+  by : (w : Option ℕ) (o : Option Halt) → run.wider ≡ w → run.ended ≡ o → Outcome (outcome_of w o run.tally)
   by (Some place) o wider ended = (tt, record { changeset = gs; read = read; first = some_wider s gs place (sym is.wider ∙ wider) })
   by None None none goes_on =
       let came = rw goes_on at (is.came_to none) in
@@ -83,11 +83,11 @@ module _ (chooses : Handler) (d : Direction) (file : List ℕ) (gs : List GroupD
       let came = rw ended at (is.came_to none) in
       (tt, refuses_from chooses run.noop file d s is.start run.tally gs read (none_wider s gs (sym is.wider ∙ none)) is.empty s refl ending came)
 
-  pub run_outcome : (result : Result Tally ApplyFault) → result ≡ answer_of run → IfOk result (λ tally. AppliesTold chooses run.noop file d s tally a) × IfErr result (Refuses chooses run.noop file d s)
+  pub run_outcome : (result : Result Tally ApplyFault) → result ≡ answer_of run → IfOk result (λ tally. AppliesTallied chooses run.noop file d s tally a) × IfErr result (Refuses chooses run.noop file d s)
   run_outcome result same = subst Outcome (sym same) (by run.wider run.ended refl refl)
 
 -- and what it is refused with has a name
-named_by : (w : Option ℕ) (o : Option Ending) (tally : Tally) → IfErr (outcome_of w o tally) IsNamed
+named_by : (w : Option ℕ) (o : Option Halt) (tally : Tally) → IfErr (outcome_of w o tally) IsNamed
 named_by (Some place) o tally = tt
 named_by None None tally = tt
 named_by None (Some (Aborted conflict)) tally = tt
@@ -97,7 +97,7 @@ pub outcome_named : (run : Run) (result : Result Tally ApplyFault) → result �
 outcome_named run result same = rw same (named_by run.wider run.ended run.tally)
 
 -- nor of the database
-caused_by : (Fails : Cause → Type 0) (w : Option ℕ) (o : Option Ending) (tally : Tally) → IfErr (outcome_of w o tally) (IsCaused Fails)
+caused_by : (Fails : Cause → Type 0) (w : Option ℕ) (o : Option Halt) (tally : Tally) → IfErr (outcome_of w o tally) (IsCaused Fails)
 caused_by Fails (Some place) o tally = tt
 caused_by Fails None None tally = tt
 caused_by Fails None (Some (Aborted conflict)) tally = tt

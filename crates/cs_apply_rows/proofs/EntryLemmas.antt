@@ -14,7 +14,7 @@ use Rattle.cs_wire.specs.Entry.{before_image}
 use Rattle.cs_wire.specs.Changeset.{HeaderData}
 use Rattle.cs_rows.specs.Rows.{Fits}
 use Rattle.cs_rows.proofs.EditingLemmas.{fits_in}
-use Rattle.cs_group.specs.Joining.{key_places}
+use Rattle.cs_group.specs.Joining.{key_marks}
 use Rattle.cs_apply_conflicts.proofs.ConflictLemmas.{and_false}
 use Rattle.cs_group.proofs.KeyPlaceLemmas.{fits_same, key_of_same}
 use Rattle.cs_apply_conflicts.specs.declared.conflict.Kind.{Kind}
@@ -29,13 +29,13 @@ use Rattle.cs_apply_rows.specs.declared.entry.Settled.{Settled}
 use Rattle.cs_apply_rows.specs.declared.entry.Settled.TheVariants.{Carried, Passed, Ignored, Ended}
 use Rattle.cs_apply_rows.specs.Report.{conflict_of, met_of}
 use Rattle.cs_apply_rows.specs.Running.{Handler, GoesOn, EndsRun}
-use Rattle.cs_apply_rows.specs.Steps.{HasTable, Settles, SettlesAs, EndsAtEntry, IsTold, AnswersAs, last_of, ending_by, settled_as}
+use Rattle.cs_apply_rows.specs.Steps.{HasTable, Settles, SettlesAs, EndsAtEntry, IsReported, AnswersAs, last_of, halt_by, settled_as}
 
 -- a row of the table fits the flags of the changes
 keyed_as : (state : State) (header : HeaderData) (key : List ℕ) (row : List OwnedValue) → HasTable state header → Fits state header.name key row → IsKeyedRow header.flags row
 keyed_as state header key row has fits =
     let same : fits.table.schema ≡ has.schema = let e = sym (ap (option_map (λ (t : TableData). t.schema)) fits.found) ∙ has.found in cc in
-    let places : key_places fits.table.schema.flags ≡ key_places header.flags = ap (λ (s : SchemaData). key_places s.flags) same ∙ has.same in
+    let places : key_marks fits.table.schema.flags ≡ key_marks header.flags = ap (λ (s : SchemaData). key_marks s.flags) same ∙ has.same in
     (fits_same fits.table.schema.flags header.flags (Insert row) places (fits.fit.values, fits.fit.keyed)).1
 
 pub keyed_here : (state : State) (header : HeaderData) (key : List ℕ) (row : Option (Bor (List OwnedValue))) → HasTable state header → IfSome row (λ r. Fits state header.name key r.now) → IfSome row (λ r. IsKeyedRow header.flags r.now)
@@ -99,24 +99,24 @@ missing_stays choice.Abort = refl
 
 module _ (chooses : Handler) (data_is : ConflictData) (conflicts : List Met) (conflict : Conflict) (is : conflict_of conflict ≡ data_is) where
   -- the run ends in the way of the choice
-  pub ended_as : (c : Choice) → ends conflict.kind c ≡ true → chooses conflict c → AnswersAs chooses data_is conflicts conflicts (Ended (ending_by conflict c))
+  pub ended_as : (c : Choice) → ends conflict.kind c ≡ true → chooses conflict c → AnswersAs chooses data_is conflicts conflicts (Ended (halt_by conflict c))
   ended_as choice.Omit e chosen = absurd (true≢false (sym e))
   ended_as choice.Replace e chosen = (is, record { chosen = chosen; ends = e }, refl)
   ended_as choice.Abort e chosen = (is, record { chosen = chosen; ends = e }, refl)
 
-  -- or goes on, and the conflict is told
+  -- or goes on, and the conflict is reported
   pub told_as : (next : List Met) (kind : Kind) → conflict.kind ≡ kind → (c : Choice) → ends kind c ≡ false → chooses conflict c
       → next ≡ conflicts ++ record { conflict = conflict; choice = c } ∷ [] → AnswersAs chooses data_is conflicts next (settled_as c)
   told_as next kind same c e chosen grown = by kind c e (record { is = is; goes_on = record { chosen = chosen; goes_on = ap (λ (k : Kind). ends k c) same ∙ e }; grown = grown }) same
     where
-      by : (kind : Kind) (c : Choice) → ends kind c ≡ false → IsTold chooses data_is conflicts next (record { conflict = conflict; choice = c }) → conflict.kind ≡ kind
+      by : (kind : Kind) (c : Choice) → ends kind c ≡ false → IsReported chooses data_is conflicts next (record { conflict = conflict; choice = c }) → conflict.kind ≡ kind
           → AnswersAs chooses data_is conflicts next (settled_as c)
-      by kind choice.Omit e told same = (record { conflict = conflict; choice = choice.Omit }, told, refl)
-      by Data choice.Replace e told same = (record { conflict = conflict; choice = choice.Replace }, told, rw same refl)
-      by NotFound choice.Replace e told same = absurd (true≢false e)
-      by KeyConflict choice.Replace e told same = (record { conflict = conflict; choice = choice.Replace }, told, rw same refl)
-      by Constraint choice.Replace e told same = absurd (true≢false e)
-      by kind choice.Abort e told same = absurd (true≢false e)
+      by kind choice.Omit e reported same = (record { conflict = conflict; choice = choice.Omit }, reported, refl)
+      by Data choice.Replace e reported same = (record { conflict = conflict; choice = choice.Replace }, reported, rw same refl)
+      by NotFound choice.Replace e reported same = absurd (true≢false e)
+      by KeyConflict choice.Replace e reported same = (record { conflict = conflict; choice = choice.Replace }, reported, rw same refl)
+      by Constraint choice.Replace e reported same = absurd (true≢false e)
+      by kind choice.Abort e reported same = absurd (true≢false e)
 
 and_itself : (b : Bool) → (b && true) ≡ b
 and_itself true = refl
@@ -134,9 +134,9 @@ pub settled_clean : (chooses : Handler) (refused : Bool) (p : PlacedEntry) (row 
 settled_clean chooses refused p row conflicts none = record {
   choose = always choice.Omit;
   carried = rw none refl;
-  told = [];
+  reported = [];
   grown = sym (append-nil conflicts);
-  all_told = rw none refl;
+  all_reported = rw none refl;
   chosen = All-nil (GoesOn chooses);
 }
 
@@ -161,25 +161,25 @@ module _ (chooses : Handler) (refused : Bool) (p : PlacedEntry) (row : Option (L
   abbrev with_choice : Kind → Choice → MetData
   with_choice kind c = record { conflict = conflict_with p row kind; choice = c }
 
-  -- a conflict that is told has its kind
+  -- a conflict that is reported has its kind
   kind_told : (m : Met) (k : Kind) → conflict_of m.conflict ≡ conflict_with p row k → m.conflict.kind ≡ k
   kind_told m k is = ap (λ (c : ConflictData). c.kind) is
 
   module _ (conflicts : List Met) where
-    -- it is told
-    settled_one : (next : List Met) (m : Met) (carried : Bool) → IsTold chooses (conflict_with p row kind) conflicts next m → is_overcome m.conflict.kind m.choice ≡ carried
+    -- it is reported
+    settled_one : (next : List Met) (m : Met) (carried : Bool) → IsReported chooses (conflict_with p row kind) conflicts next m → is_overcome m.conflict.kind m.choice ≡ carried
         → (refused && carried) ≡ false → Settles chooses refused p row conflicts next carried
-    settled_one next m carried told overcome only =
+    settled_one next m carried reported overcome only =
         let choose = always m.choice in
-        let same : is_overcome kind m.choice ≡ carried = rw (kind_told m kind told.is) at overcome in
+        let same : is_overcome kind m.choice ≡ carried = rw (kind_told m kind reported.is) at overcome in
         let kinds : kinds_met refused p.entry.change row choose ≡ kind ∷ [] = met_one choose (rw same only) in
         record {
           choose = choose;
           carried = rw (kinds, same) (sym (and_itself carried));
-          told = m ∷ [];
-          grown = told.grown;
-          all_told = rw kinds (ap (λ (c : ConflictData). record { conflict = c; choice = m.choice } ∷ []) (sym told.is));
-          chosen = All-cons (GoesOn chooses) m [] told.goes_on (All-nil (GoesOn chooses));
+          reported = m ∷ [];
+          grown = reported.grown;
+          all_reported = rw kinds (ap (λ (c : ConflictData). record { conflict = c; choice = m.choice } ∷ []) (sym reported.is));
+          chosen = All-cons (GoesOn chooses) m [] reported.goes_on (All-nil (GoesOn chooses));
         }
 
     -- or the run ends at it
@@ -191,9 +191,9 @@ module _ (chooses : Handler) (refused : Bool) (p : PlacedEntry) (row : Option (L
         let kinds : kinds_met refused p.entry.change row choose ≡ kind ∷ [] = met_one choose (rw stays (and_false refused)) in
         record {
           choose = choose;
-          told = [];
+          reported = [];
           grown = same ∙ sym (append-nil conflicts);
-          all_told = rw kinds (ap (λ (c : ConflictData). record { conflict = c; choice = last.choice } ∷ []) (sym is));
+          all_reported = rw kinds (ap (λ (c : ConflictData). record { conflict = c; choice = last.choice } ∷ []) (sym is));
           chosen = All-nil (GoesOn chooses);
           ended = ended;
         }
@@ -207,7 +207,7 @@ module _ (chooses : Handler) (refused : Bool) (p : PlacedEntry) (row : Option (L
     settled_first next (Ended ending) h kept = ended_first next (last_of ending) h.0 h.1 h.2
 
     -- the first is overcome, so that it is another kind
-    module _ (mid : List Met) (m : Met) (first : IsTold chooses (conflict_with p row kind) conflicts mid m) (overcome : is_overcome m.conflict.kind m.choice ≡ true) (is_refused : refused ≡ true) where
+    module _ (mid : List Met) (m : Met) (first : IsReported chooses (conflict_with p row kind) conflicts mid m) (overcome : is_overcome m.conflict.kind m.choice ≡ true) (is_refused : refused ≡ true) where
       overcome_here : is_overcome kind m.choice ≡ true
       overcome_here = rw (kind_told m kind first.is) at overcome
 
@@ -231,7 +231,7 @@ module _ (chooses : Handler) (refused : Bool) (p : PlacedEntry) (row : Option (L
           ∙ ap (λ (c : Choice). record { conflict = conflict_of m.conflict; choice = c } ∷ met_of n ∷ []) same)
 
       -- what comes of the second
-      settled_two : (next : List Met) (n : Met) (carried : Bool) → IsTold chooses (conflict_with p row Constraint) mid next n → is_overcome n.conflict.kind n.choice ≡ carried
+      settled_two : (next : List Met) (n : Met) (carried : Bool) → IsReported chooses (conflict_with p row Constraint) mid next n → is_overcome n.conflict.kind n.choice ≡ carried
           → Settles chooses refused p row conflicts next carried
       settled_two next n carried second over =
           let choose = in_turn m.choice n.choice in
@@ -241,9 +241,9 @@ module _ (chooses : Handler) (refused : Bool) (p : PlacedEntry) (row : Option (L
           record {
             choose = choose;
             carried = rw (kinds, same, overcome_here, there) (sym (and_itself carried));
-            told = m ∷ n ∷ [];
+            reported = m ∷ n ∷ [];
             grown = second.grown ∙ ap (λ (l : List Met). l ++ n ∷ []) first.grown ∙ append_assoc conflicts (m ∷ []) (n ∷ []);
-            all_told = both_met n second.is;
+            all_reported = both_met n second.is;
             chosen = All-cons (GoesOn chooses) m (n ∷ []) first.goes_on (All-cons (GoesOn chooses) n [] second.goes_on (All-nil (GoesOn chooses)));
           }
 
@@ -253,9 +253,9 @@ module _ (chooses : Handler) (refused : Bool) (p : PlacedEntry) (row : Option (L
       settled_second next Ignored h = absurd h
       settled_second next (Ended ending) h = record {
         choose = in_turn m.choice (last_of ending).choice;
-        told = m ∷ [];
+        reported = m ∷ [];
         grown = h.2 ∙ first.grown;
-        all_told = both_met (last_of ending) h.0;
+        all_reported = both_met (last_of ending) h.0;
         chosen = All-cons (GoesOn chooses) m [] first.goes_on (All-nil (GoesOn chooses));
         ended = h.1;
       }

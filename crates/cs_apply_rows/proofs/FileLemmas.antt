@@ -8,7 +8,7 @@ use Rattle.cs_wire.specs.declared.header.HeaderRef.{HeaderRef}
 use Rattle.cs_wire.specs.Changeset.{GroupData, HeaderData, IsFileOf, IsGroup}
 use Rattle.cs_wire.specs.Headers.{header_of}
 use Rattle.cs_wire.specs.Items.{FlaggedEntry}
-use Rattle.cs_file_tables.specs.Tables.{AreLeft, IsNextEntry, IsNextTable, TablesData}
+use Rattle.cs_file_tables.specs.Tables.{EntriesLeft, IsNextEntry, IsNextTable, TablesData}
 use Rattle.cs_file_tables.proofs.TablesLemmas.{PassedEntries, PassedEntries-all, PassedEntries-next}
 use Rattle.cs_apply_rows.specs.declared.run.Run.{Run}
 use Rattle.cs_apply_rows.specs.declared.running.Direction.{Direction}
@@ -62,12 +62,12 @@ pub record RunsTables (chooses : Handler) (d : Direction) (file : List ℕ) (now
   pub closed : List GroupData
   pub others : List GroupData
   pub whole : groups ≡ closed ++ others
-  pub are_left : AreLeft now [] others
+  pub are_left : EntriesLeft now [] others
   pub behind : honest → was_honest × IsBehind chooses before (directed d closed) run after
 
 module _ (chooses : Handler) (d : Direction) (file : List ℕ) (now : TablesData) (run : Run) (honest was : Type 0) (s a : State) (so : RunsTables chooses d file now run honest was s a) where
-  pub tables_next : (header : HeaderRef) (opened next : TablesData) (further : Run) (later : Type 0) (b : State) (is : IsNextTable so.others header opened) → AreLeft next [] is.others → (later → honest)
-      → (later → (before : State) (closed : List GroupData) (entries : List Entry) (others : List GroupData) → AreLeft opened entries others → IsGroup (group_of (header_of header) entries)
+  pub tables_next : (header : HeaderRef) (opened next : TablesData) (further : Run) (later : Type 0) (b : State) (is : IsNextTable so.others header opened) → EntriesLeft next [] is.others → (later → honest)
+      → (later → (before : State) (closed : List GroupData) (entries : List Entry) (others : List GroupData) → EntriesLeft opened entries others → IsGroup (group_of (header_of header) entries)
       → AllByRecursion (λ g. g.header.name ≢ (header_of header).name) closed → IsBehind chooses before closed run a
       → IsBehind chooses before (closed ++ directed_group d (group_of (header_of header) entries) ∷ []) further b)
       → RunsTables chooses d file next further later was s b

@@ -15,25 +15,25 @@ use Rattle.cs_apply_rows.specs.declared.tally.Tally.{Tally}
 use Rattle.cs_apply_rows.specs.declared.report.Summary.{Summary}
 use Rattle.cs_apply_rows.specs.declared.tally.Writings.{Writings}
 use Rattle.cs_apply_rows.specs.declared.tally.Writings.TheVariants.{Listed, Counted}
-use Rattle.cs_apply_rows.specs.Tally.{Tells, count_told}
+use Rattle.cs_apply_rows.specs.Tally.{Tallies, count_in}
 use Rattle.cs_apply_rows.specs.declared.running.Direction.{Direction}
-use Rattle.cs_apply_rows.specs.declared.ending.Ending.{Ending}
-use Rattle.cs_apply_rows.specs.declared.ending.Ending.TheVariants.{Aborted, Misused}
+use Rattle.cs_apply_rows.specs.declared.halt.Halt.{Halt}
+use Rattle.cs_apply_rows.specs.declared.halt.Halt.TheVariants.{Aborted, Misused}
 use Rattle.cs_apply_rows.specs.Report.{met_of}
 use Rattle.cs_apply_rows.specs.Run.{IsEmpty}
-use Rattle.cs_apply_rows.specs.Running.{Handler, IsReadAs, GoesOn, Applies, AppliesCounted, AppliesTold, IsReached, EndsAt, Refuses, Summarizes}
+use Rattle.cs_apply_rows.specs.Running.{Handler, IsReadAs, GoesOn, Applies, AppliesCounted, AppliesTallied, IsReached, EndsAt, Refuses, Summarizes}
 use Rattle.cs_apply_rows.specs.Steps.{Carries, Stops, last_of, refusal_of}
 
 module _ (chooses : Handler) (noop : Noop) (file : List ℕ) (direction : Direction) (old : State) (r t : Tally) (changeset : List GroupData)
     (read : IsReadAs file direction changeset) (none_wider : NoneWider old changeset) (empty : IsEmpty r) (mid : State) (same : mid ≡ old) where
   pub applies_from : (new : State) → Carries chooses (heeded noop mid changeset) mid r new t → map string_bytes t.skipped.items ≡ map string_bytes r.skipped.items ++ skipped mid changeset
-      → t.ignored ≡ r.ignored + ignored noop mid changeset → AppliesTold chooses noop file direction old t new
-  applies_from new ran told counted =
+      → t.ignored ≡ r.ignored + ignored noop mid changeset → AppliesTallied chooses noop file direction old t new
+  applies_from new ran reported counted =
       let carried = subst (λ (s : State). Carries chooses (heeded noop s changeset) s r new t) same ran in
       let writes = filter_map (written_for old carried.choose) (heeded noop old changeset) in
       record {
         writes = writes;
-        told = carried.written [] empty.written;
+        reported = carried.written [] empty.written;
         applies = record {
           changeset = changeset;
           read = read;
@@ -42,9 +42,9 @@ module _ (chooses : Handler) (noop : Noop) (file : List ℕ) (direction : Direct
           applied = carried.applied;
           conflicts = carried.conflicts ∙ ap (λ (l : List Met). map met_of l ++ flat_map (met_at old carried.choose) (heeded noop old changeset)) empty.conflicts;
           chosen = carried.chosen (rw empty.conflicts (All-nil (GoesOn chooses)));
-          skipped = rw (empty.skipped, same) at told;
+          skipped = rw (empty.skipped, same) at reported;
           written = refl;
-          ignored = let told : t.ignored ≡ r.ignored + ignored noop old changeset = rw same at counted in omega (arith, told, empty.ignored);
+          ignored = let reported : t.ignored ≡ r.ignored + ignored noop old changeset = rw same at counted in omega (arith, reported, empty.ignored);
         };
       }
 
@@ -60,31 +60,31 @@ module _ (chooses : Handler) (noop : Noop) (file : List ℕ) (direction : Direct
   ends_at : (last : Met) → Stops chooses (heeded noop old changeset) old r t last → EndsAt chooses noop file direction old last
   ends_at last ended = record { changeset = changeset; read = read; none_wider = none_wider; reached = reached last ended; ended = ended.ended }
 
-  refuses_now : (e : Ending) → Stops chooses (heeded noop old changeset) old r t (last_of e) → Refuses chooses noop file direction old (refusal_of e)
+  refuses_now : (e : Halt) → Stops chooses (heeded noop old changeset) old r t (last_of e) → Refuses chooses noop file direction old (refusal_of e)
   refuses_now (Aborted k) h = ends_at (last_of (Aborted k)) h
   refuses_now (Misused k) h = ends_at (last_of (Misused k)) h
 
-  pub refuses_from : (e : Ending) → Stops chooses (heeded noop mid changeset) mid r t (last_of e) → Refuses chooses noop file direction old (refusal_of e)
+  pub refuses_from : (e : Halt) → Stops chooses (heeded noop mid changeset) mid r t (last_of e) → Refuses chooses noop file direction old (refusal_of e)
   refuses_from e ended = refuses_now e (subst (λ (s : State). Stops chooses (heeded noop s changeset) s r t (last_of e)) same ended)
 
 -- a report has what a tally of listed entries has
-pub told_reports : (chooses : Handler) (noop : Noop) (file : List ℕ) (direction : Direction) (old : State) (tally : Tally) (new : State) (report : Report) → AppliesTold chooses noop file direction old tally new
-    → report.conflicts ≡ tally.conflicts → report.skipped ≡ tally.skipped → ((told : List WrittenData) → Tells tally.written told → map written_of report.written.items ≡ told) → report.ignored ≡ tally.ignored
+pub told_reports : (chooses : Handler) (noop : Noop) (file : List ℕ) (direction : Direction) (old : State) (tally : Tally) (new : State) (report : Report) → AppliesTallied chooses noop file direction old tally new
+    → report.conflicts ≡ tally.conflicts → report.skipped ≡ tally.skipped → ((reported : List WrittenData) → Tallies tally.written reported → map written_of report.written.items ≡ reported) → report.ignored ≡ tally.ignored
     → Applies chooses noop file direction old report new
-told_reports chooses noop file direction old tally new report tells conflicts skips written passed = rw (conflicts, skips, written tells.writes tells.told, passed) tells.applies
+told_reports chooses noop file direction old tally new report tells conflicts skips written passed = rw (conflicts, skips, written tells.writes tells.reported, passed) tells.applies
 
 -- and a summary, with the number of what was written
-pub told_counts : (chooses : Handler) (noop : Noop) (file : List ℕ) (direction : Direction) (old : State) (tally : Tally) (new : State) (summary : Summary) → AppliesTold chooses noop file direction old tally new
-    → summary.conflicts ≡ tally.conflicts → summary.skipped ≡ tally.skipped → summary.written ≡ count_told tally.written → summary.ignored ≡ tally.ignored → AppliesCounted chooses noop file direction old summary new
+pub told_counts : (chooses : Handler) (noop : Noop) (file : List ℕ) (direction : Direction) (old : State) (tally : Tally) (new : State) (summary : Summary) → AppliesTallied chooses noop file direction old tally new
+    → summary.conflicts ≡ tally.conflicts → summary.skipped ≡ tally.skipped → summary.written ≡ count_in tally.written → summary.ignored ≡ tally.ignored → AppliesCounted chooses noop file direction old summary new
 told_counts chooses noop file direction old tally new summary tells conflicts skips written passed = record {
   writes = tells.writes;
-  counted = written ∙ count tally.written tells.told;
+  counted = written ∙ count tally.written tells.reported;
   applies = rw (conflicts, skips, passed) tells.applies;
 }
   where
-    count : (w : Writings) → Tells w tells.writes → count_told w ≡ length tells.writes
-    count (Listed list) told = sym (length-map list.items written_of) ∙ ap length told
-    count (Counted n) told = told
+    count : (w : Writings) → Tallies w tells.writes → count_in w ≡ length tells.writes
+    count (Listed list) reported = sym (length-map list.items written_of) ∙ ap length reported
+    count (Counted n) reported = reported
 
 pub report_counts : (chooses : Handler) (noop : Noop) (file : List ℕ) (direction : Direction) (old : State) (report : Report) (new : State) (summary : Summary) → Applies chooses noop file direction old report new → Summarizes summary report
     → AppliesCounted chooses noop file direction old summary new

@@ -9,14 +9,14 @@ use Rattle.cs_value.specs.State.{SchemaData, State, schema_at}
 use Rattle.cs_value.proofs.ListLemmas.{AllByRecursion-append, AllByRecursion-map, AllByRecursion-weaker}
 use Rattle.cs_wire.specs.Changeset.{HeaderData, GroupData}
 use Rattle.cs_apply_conflicts.specs.declared.judging.Judgement.TheVariants.{Skipped, Wider, Compatible}
-use Rattle.cs_group.specs.Joining.{key_places}
+use Rattle.cs_group.specs.Joining.{key_marks}
 use Rattle.cs_apply_conflicts.specs.Judging.{leads, judgement, judged, is_compatible, is_skipped}
 use Rattle.cs_apply_conflicts.specs.Applying.{placed_by, placed_in, placed, compatible_groups, applicable, skipped}
 use Rattle.cs_apply_rows.specs.Steps.{HasTable}
 
 -- ---- the table of a group
 
-same_places : (flags table : List ℕ) → leads flags table ≡ true → length table ≤ length flags → key_places table ≡ key_places flags
+same_places : (flags table : List ℕ) → leads flags table ≡ true → length table ≤ length flags → key_marks table ≡ key_marks flags
 same_places [] [] e le = refl
 same_places [] (t ∷ table) e le = absurd (omega (arith, le))
 same_places (f ∷ flags) [] e le = absurd (true≢false (sym e))
@@ -25,10 +25,10 @@ same_places (zero ∷ flags) (suc t ∷ table) e le = absurd (true≢false (sym 
 same_places (suc f ∷ flags) (zero ∷ table) e le = absurd (true≢false (sym e))
 same_places (suc f ∷ flags) (suc t ∷ table) e le = ap (λ (l : List Bool). true ∷ l) (same_places flags table e (omega (arith, le)))
 
-compatible_places : (flags table : List ℕ) → judgement flags (Some table) ≡ Compatible → key_places table ≡ key_places flags
+compatible_places : (flags table : List ℕ) → judgement flags (Some table) ≡ Compatible → key_marks table ≡ key_marks flags
 compatible_places flags table e = at (leads flags table) (nat_lt (length flags) (length table)) refl refl e
   where
-    at : (a b : Bool) → leads flags table ≡ a → nat_lt (length flags) (length table) ≡ b → (if a then (if b then Wider else Compatible) else Skipped) ≡ Compatible → key_places table ≡ key_places flags
+    at : (a b : Bool) → leads flags table ≡ a → nat_lt (length flags) (length table) ≡ b → (if a then (if b then Wider else Compatible) else Skipped) ≡ Compatible → key_marks table ≡ key_marks flags
     at true true p q e = absurd (cc)
     at true false p q e = same_places flags table p (ltb-false (length flags) (length table) q)
     at false b p q e = absurd (cc)

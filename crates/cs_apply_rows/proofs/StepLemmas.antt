@@ -17,7 +17,7 @@ use Rattle.cs_apply_conflicts.proofs.ApplyLemmas.{refuses_same}
 use Rattle.cs_apply_rows.specs.declared.conflict.Met.{Met}
 use Rattle.cs_apply_rows.specs.declared.tally.Tally.{Tally}
 use Rattle.cs_apply_rows.specs.Report.{met_of}
-use Rattle.cs_apply_rows.specs.Tally.{Tells}
+use Rattle.cs_apply_rows.specs.Tally.{Tallies}
 use Rattle.cs_apply_rows.specs.Running.{Handler}
 use Rattle.cs_apply_rows.specs.Steps.{Carries, Stops}
 
@@ -109,7 +109,7 @@ module _ (ps qs : List PlacedEntry) (a b : State) (first second : Choices) (apar
   pub same_rules : (q : PlacedEntry) → refused_at b q ≡ refused_at a q
   same_rules q = ap (λ (rules : List Bool). is_refused rules q.flags q.entry.change) (refuses_same a b applied.schemas q.table)
 
-  -- what is told by rules, row and choice is told alike
+  -- what is reported by rules, row and choice is reported alike
   by_row : {Y : Type 0} (f : Bool → PlacedEntry → Option (List OwnedValue) → (Kind → Choice) → Option Y)
       → filter_map (λ p. f (refused_at a p) p (current a p) (first p)) ps ++ filter_map (λ q. f (refused_at b q) q (current b q) (second q)) qs ≡ filter_map (λ p. f (refused_at a p) p (current a p) (both p)) (ps ++ qs)
   by_row {Y} f =
@@ -190,7 +190,7 @@ module _ (chooses : Handler) where
     applied = record { schemas = λ table. refl; results = λ k x lt. absurd (omega arith); others = λ table key away. refl };
     conflicts = sym (append-nil (map met_of r.conflicts.items));
     chosen = λ all. all;
-    written = λ told was. rw (append-nil told) was;
+    written = λ reported was. rw (append-nil reported) was;
   }
 
   module _ (ps qs : List PlacedEntry) (a b : State) (r s : Tally) (apart : Apart ps qs) (one : Carries chooses ps a r b s) where
@@ -203,11 +203,11 @@ module _ (chooses : Handler) where
           ∙ append_assoc (map met_of r.conflicts.items) (flat_map (met_at a one.choose) ps) (flat_map (met_at b two.choose) qs)
           ∙ ap (λ (l : List MetData). map met_of r.conflicts.items ++ l) (all_by_row ps qs a b one.choose two.choose apart one.applied met_by);
       chosen = λ all. two.chosen (one.chosen all);
-      written = λ told was.
-          subst (Tells t.written)
-          (append_assoc told (filter_map (written_for a one.choose) ps) (filter_map (written_for b two.choose) qs)
-          ∙ ap (λ (l : List WrittenData). told ++ l) (by_row ps qs a b one.choose two.choose apart one.applied written_by))
-          (two.written (told ++ filter_map (written_for a one.choose) ps) (one.written told was));
+      written = λ reported was.
+          subst (Tallies t.written)
+          (append_assoc reported (filter_map (written_for a one.choose) ps) (filter_map (written_for b two.choose) qs)
+          ∙ ap (λ (l : List WrittenData). reported ++ l) (by_row ps qs a b one.choose two.choose apart one.applied written_by))
+          (two.written (reported ++ filter_map (written_for a one.choose) ps) (one.written reported was));
     }
 
 -- ---- a run that ends

@@ -14,11 +14,11 @@ use Rattle.cs_apply_conflicts.specs.Judging.{judged, is_skipped}
 use Rattle.cs_apply_conflicts.specs.Judging as judging
 use Rattle.cs_apply_conflicts.specs.declared.conflict.Noop.{Noop}
 use Rattle.cs_apply_conflicts.specs.Applying.{heeded, ignored, refuses_at, skipped}
-use Rattle.cs_apply_rows.specs.declared.ending.Ending.{Ending}
+use Rattle.cs_apply_rows.specs.declared.halt.Halt.{Halt}
 use Rattle.cs_apply_rows.specs.declared.fault.ApplyFault.{ApplyFault}
 use Rattle.cs_apply_rows.specs.declared.fault.ApplyFault.TheVariants.{Wider}
 use Rattle.cs_apply_rows.specs.declared.tally.Tally.{Tally}
-use Rattle.cs_apply_rows.specs.Tally.{Tells}
+use Rattle.cs_apply_rows.specs.Tally.{Tallies}
 use Rattle.cs_apply_rows.specs.declared.run.Run.{Run}
 use Rattle.cs_apply_rows.specs.declared.running.Direction.{Direction}
 use Rattle.cs_apply_rows.specs.declared.running.Direction.TheVariants.{Forward, Inverse}
@@ -42,7 +42,7 @@ group_of header entries = record { header = header; entries = entries }
 pub record IsEmpty (r : Tally) : Type 0 where
   pub conflicts : r.conflicts.items ≡ []
   pub skipped : r.skipped.items ≡ []
-  pub written : Tells r.written []
+  pub written : Tallies r.written []
   pub ignored : r.ignored ≡ 0
 
 -- a run before the first item
@@ -60,7 +60,7 @@ first_wider (judgement.Skipped ∷ js) = option_map suc (first_wider js)
 first_wider (judgement.Compatible ∷ js) = option_map suc (first_wider js)
 
 -- what became of the entries: all were carried out, passed over or ignored, or the run ended at one of them
-abbrev pub CameTo : Handler → Noop → State → List GroupData → Tally → Tally → State → Option Ending → Type 0
+abbrev pub CameTo : Handler → Noop → State → List GroupData → Tally → Tally → State → Option Halt → Type 0
 CameTo chooses noop before groups start tally after None =
     Carries chooses (heeded noop before groups) before start after tally
     × (map string_bytes tally.skipped.items ≡ map string_bytes start.skipped.items ++ skipped before groups)
@@ -125,7 +125,7 @@ pub record IsNewEntry (closed : List GroupData) (header : HeaderData) (entries :
   pub key : AllByRecursion (λ d. key_of header.flags d.change ≢ key_of header.flags entry.change) entries
 
 -- what a run comes to behind the last item
-abbrev pub outcome_of : Option ℕ → Option Ending → Tally → Result Tally ApplyFault
+abbrev pub outcome_of : Option ℕ → Option Halt → Tally → Result Tally ApplyFault
 outcome_of (Some place) ended tally = Err (Wider place)
 outcome_of None (Some ending) tally = Err (refusal_of ending)
 outcome_of None None tally = Ok tally

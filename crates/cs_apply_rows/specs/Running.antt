@@ -22,7 +22,7 @@ use Rattle.cs_apply_rows.specs.declared.conflict.Met.{Met}
 use Rattle.cs_apply_rows.specs.declared.report.Report.{Report}
 use Rattle.cs_apply_rows.specs.declared.report.Summary.{Summary}
 use Rattle.cs_apply_rows.specs.declared.tally.Tally.{Tally}
-use Rattle.cs_apply_rows.specs.Tally.{Tells}
+use Rattle.cs_apply_rows.specs.Tally.{Tallies}
 use Rattle.cs_apply_rows.specs.declared.running.Direction.{Direction}
 use Rattle.cs_apply_rows.specs.declared.running.Direction.TheVariants.{Forward, Inverse}
 use Rattle.cs_apply_rows.specs.declared.fault.ApplyFault.{ApplyFault}
@@ -77,10 +77,10 @@ Applies chooses noop file direction old report new =
     (map string_bytes report.skipped.items) (map written_of report.written.items) report.ignored new
 
 -- a file is applied, with what the tally has
-pub record AppliesTold (chooses : Handler) (noop : Noop) (file : List ℕ) (direction : Direction) (old : State)
+pub record AppliesTallied (chooses : Handler) (noop : Noop) (file : List ℕ) (direction : Direction) (old : State)
     (tally : Tally) (new : State) : Type 0 where
   pub writes : List WrittenData
-  pub told : Tells tally.written writes
+  pub reported : Tallies tally.written writes
   pub applies : AppliesWith chooses noop file direction old tally.conflicts.items
       (map string_bytes tally.skipped.items) writes tally.ignored new
 

@@ -14,18 +14,18 @@ use Rattle.cs_apply_conflicts.specs.declared.conflict.Choice.TheVariants as choi
 use Rattle.cs_apply_conflicts.specs.declared.conflict.Noop.{Noop}
 use Rattle.cs_apply_conflicts.specs.declared.conflict.Noop.TheVariants as noop
 use Rattle.cs_apply_conflicts.specs.Conflicts.{kinds_met, is_idle, is_overcome, is_carried_out}
-use Rattle.cs_group.specs.Joining.{key_places}
+use Rattle.cs_group.specs.Joining.{key_marks}
 use Rattle.cs_apply_conflicts.specs.Applying.{PlacedEntry, ConflictData, MetData, Choices, AreApplied, met_with, met_at, written_for, heeded_of, ignored_of}
 use Rattle.cs_apply_rows.specs.declared.conflict.Conflict.{Conflict}
 use Rattle.cs_apply_rows.specs.declared.conflict.Met.{Met}
-use Rattle.cs_apply_rows.specs.declared.ending.Ending.{Ending}
-use Rattle.cs_apply_rows.specs.declared.ending.Ending.TheVariants.{Aborted, Misused}
+use Rattle.cs_apply_rows.specs.declared.halt.Halt.{Halt}
+use Rattle.cs_apply_rows.specs.declared.halt.Halt.TheVariants.{Aborted, Misused}
 use Rattle.cs_apply_rows.specs.declared.fault.ApplyFault.{ApplyFault}
 use Rattle.cs_apply_rows.specs.declared.fault.ApplyFault.TheVariants.{Abort, Misuse, Store}
 use Rattle.cs_apply_rows.specs.declared.entry.Settled.{Settled}
 use Rattle.cs_apply_rows.specs.declared.entry.Settled.TheVariants.{Carried, Passed, Ignored, Ended}
 use Rattle.cs_apply_rows.specs.declared.tally.Tally.{Tally}
-use Rattle.cs_apply_rows.specs.Tally.{Tells}
+use Rattle.cs_apply_rows.specs.Tally.{Tallies}
 use Rattle.cs_apply_rows.specs.Report.{conflict_of, met_of}
 use Rattle.cs_apply_rows.specs.Running.{Handler, GoesOn, EndsRun, IsResource}
 
@@ -37,7 +37,7 @@ IsStoreRefusal fault = IsResource fault ⊎ (fault ≡ Store DamagedStore)
 pub record HasTable (state : State) (header : HeaderData) : Type 0 where
   pub schema : SchemaData
   pub found : schema_at state header.name ≡ Some schema
-  pub same : key_places schema.flags ≡ key_places header.flags
+  pub same : key_marks schema.flags ≡ key_marks header.flags
 
 -- these entries are applied to a state, and the tally goes on with them
 pub record Carries (chooses : Handler) (entries : List PlacedEntry) (before : State) (tally : Tally) (after : State)
@@ -47,8 +47,8 @@ pub record Carries (chooses : Handler) (entries : List PlacedEntry) (before : St
   pub conflicts : map met_of next.conflicts.items
       ≡ map met_of tally.conflicts.items ++ flat_map (met_at before choose) entries
   pub chosen : All (GoesOn chooses) tally.conflicts.items → All (GoesOn chooses) next.conflicts.items
-  pub written : (told : List WrittenData) → Tells tally.written told
-      → Tells next.written (told ++ filter_map (written_for before choose) entries)
+  pub written : (reported : List WrittenData) → Tallies tally.written reported
+      → Tallies next.written (reported ++ filter_map (written_for before choose) entries)
 
 -- the run ends at a conflict of one of these entries, and the tally has those before it
 pub record Stops (chooses : Handler) (entries : List PlacedEntry) (before : State) (tally next : Tally) (last : Met) :
@@ -61,12 +61,12 @@ pub record Stops (chooses : Handler) (entries : List PlacedEntry) (before : Stat
   pub ended : EndsRun chooses last
 
 -- the conflict at which it ended, with what was chosen
-abbrev pub last_of : Ending → Met
+abbrev pub last_of : Halt → Met
 last_of (Aborted conflict) = record { conflict = conflict; choice = choice.Abort }
 last_of (Misused conflict) = record { conflict = conflict; choice = choice.Replace }
 
 -- what a run that ended so is refused with
-abbrev pub refusal_of : Ending → ApplyFault
+abbrev pub refusal_of : Halt → ApplyFault
 refusal_of (Aborted conflict) = Abort conflict
 refusal_of (Misused conflict) = Misuse conflict
 
@@ -79,15 +79,15 @@ header_in table seen = record { name = table; flags = seen.flags }
 
 -- what an entry comes to: it is carried out or passed over, or ignored, or the run ends at it, and the rows are as they
 -- were
-abbrev pub ComesTo : Handler → Noop → PlacedEntry → State → Tally → State → Tally → Option Ending → Type 0
+abbrev pub ComesTo : Handler → Noop → PlacedEntry → State → Tally → State → Tally → Option Halt → Type 0
 ComesTo chooses noop p before tally after next None =
     Carries chooses (heeded_of noop before (p ∷ [])) before tally after next
     × (next.ignored ≡ tally.ignored + length (ignored_of noop before (p ∷ [])))
 ComesTo chooses noop p before tally after next (Some ending) =
     Stops chooses (heeded_of noop before (p ∷ [])) before tally next (last_of ending) × (after ≡ before)
 
--- a conflict is told, with what the handler chose for it
-pub record IsTold (chooses : Handler) (conflict : ConflictData) (conflicts next : List Met) (m : Met) : Type 0 where
+-- a conflict is reported, with what the handler chose for it
+pub record IsReported (chooses : Handler) (conflict : ConflictData) (conflicts next : List Met) (m : Met) : Type 0 where
   pub is : conflict_of m.conflict ≡ conflict
   pub goes_on : GoesOn chooses m
   pub grown : next ≡ conflicts ++ m ∷ []
@@ -95,37 +95,37 @@ pub record IsTold (chooses : Handler) (conflict : ConflictData) (conflicts next 
 -- what comes of a conflict of which the handler was asked: it is overcome, or the entry is passed over, or the run ends
 abbrev pub AnswersAs : Handler → ConflictData → List Met → List Met → Settled → Type 0
 AnswersAs chooses conflict conflicts next Carried =
-    (m : Met) × IsTold chooses conflict conflicts next m × (is_overcome m.conflict.kind m.choice ≡ true)
+    (m : Met) × IsReported chooses conflict conflicts next m × (is_overcome m.conflict.kind m.choice ≡ true)
 AnswersAs chooses conflict conflicts next Passed =
-    (m : Met) × IsTold chooses conflict conflicts next m × (is_overcome m.conflict.kind m.choice ≡ false)
+    (m : Met) × IsReported chooses conflict conflicts next m × (is_overcome m.conflict.kind m.choice ≡ false)
 AnswersAs chooses conflict conflicts next Ignored = ⊥
 AnswersAs chooses conflict conflicts next (Ended ending) =
     (conflict_of (last_of ending).conflict ≡ conflict) × EndsRun chooses (last_of ending) × (next ≡ conflicts)
 
--- what is chosen for the conflicts that an entry meets at a row, in turn, and the conflicts that are told then
+-- what is chosen for the conflicts that an entry meets at a row, in turn, and the conflicts that are reported then
 pub record Settles (chooses : Handler) (refused : Bool) (p : PlacedEntry) (row : Option (List OwnedValue))
     (conflicts next : List Met) (is_carried : Bool) : Type 0 where
   pub choose : Kind → Choice
   pub carried : is_carried ≡ is_carried_out (kinds_met refused p.entry.change row choose) choose
-  pub told : List Met
-  pub grown : next ≡ conflicts ++ told
-  pub all_told : met_with refused p row choose ≡ map met_of told
-  pub chosen : All (GoesOn chooses) told
+  pub reported : List Met
+  pub grown : next ≡ conflicts ++ reported
+  pub all_reported : met_with refused p row choose ≡ map met_of reported
+  pub chosen : All (GoesOn chooses) reported
 
 -- how the run ends at a conflict
-abbrev pub ending_by : Conflict → Choice → Ending
-ending_by conflict choice.Omit = Misused conflict
-ending_by conflict choice.Replace = Misused conflict
-ending_by conflict choice.Abort = Aborted conflict
+abbrev pub halt_by : Conflict → Choice → Halt
+halt_by conflict choice.Omit = Misused conflict
+halt_by conflict choice.Replace = Misused conflict
+halt_by conflict choice.Abort = Aborted conflict
 
--- the run ends at a conflict that the entry meets; those before it are told
+-- the run ends at a conflict that the entry meets; those before it are reported
 pub record EndsAtEntry (chooses : Handler) (refused : Bool) (p : PlacedEntry) (row : Option (List OwnedValue))
     (conflicts next : List Met) (last : Met) : Type 0 where
   pub choose : Kind → Choice
-  pub told : List Met
-  pub grown : next ≡ conflicts ++ told
-  pub all_told : met_with refused p row choose ≡ map met_of told ++ met_of last ∷ []
-  pub chosen : All (GoesOn chooses) told
+  pub reported : List Met
+  pub grown : next ≡ conflicts ++ reported
+  pub all_reported : met_with refused p row choose ≡ map met_of reported ++ met_of last ∷ []
+  pub chosen : All (GoesOn chooses) reported
   pub ended : EndsRun chooses last
 
 -- what is done where the run goes on

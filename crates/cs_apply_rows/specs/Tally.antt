@@ -6,13 +6,13 @@ use Rattle.cs_apply_rows.specs.declared.tally.Writings.{Writings}
 use Rattle.cs_apply_rows.specs.declared.tally.Writings.TheVariants.{Listed, Counted}
 
 -- these were written, which is listed or counted
-abbrev pub Tells : Writings → List WrittenData → Type 0
-Tells (Listed written) told = map written_of written.items ≡ told
-Tells (Counted count) told = count ≡ length told
+abbrev pub Tallies : Writings → List WrittenData → Type 0
+Tallies (Listed written) reported = map written_of written.items ≡ reported
+Tallies (Counted count) reported = count ≡ length reported
 
-abbrev pub count_told : Writings → ℕ
-count_told (Listed written) = length written.items
-count_told (Counted count) = count
+abbrev pub count_in : Writings → ℕ
+count_in (Listed written) = length written.items
+count_in (Counted count) = count
 
 abbrev pub is_listed : Writings → Bool
 is_listed (Listed written) = true

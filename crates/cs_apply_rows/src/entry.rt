@@ -11,15 +11,15 @@ ghost use Rattle.cs_apply_conflicts.specs.Conflicts.{row_after as row_of_change}
 ghost use Rattle.cs_apply_conflicts.specs.Applying.{conflict_with, refuses_at};
 ghost use Rattle.cs_apply_rows.specs.declared.entry.Settled.TheVariants.{Carried as CarriedOut};
 ghost use Rattle.cs_value.specs.State.{WrittenData};
-ghost use Rattle.cs_apply_rows.specs.Tally.{Tells, is_listed};
+ghost use Rattle.cs_apply_rows.specs.Tally.{Tallies, is_listed};
 ghost use Rattle.cs_apply_rows.specs.Running.{IsCaused, IsResource};
 ghost use Rattle.cs_apply_rows.specs.Steps.{HasTable, ComesTo, IsStoreRefusal, SettlesAs, AnswersAs, is_ignored, is_left_out, header_in, placed_in_table, settled_as, with_result};
 ghost use Rattle.cs_apply_rows.specs.Steps.{IsResultWrite};
 ghost use Rattle.cs_apply_rows.specs.Writes.{IsEntryWrite};
 
 use crate::conflict::{Conflict, Met};
-use crate::ending::Ending;
 use crate::fault::ApplyFault;
+use crate::halt::Halt;
 use crate::tally::{Tally, Writings};
 use cs_apply_conflicts::{Choice, Kind, Noop, agrees, conflict_kind, is_refused, row_after};
 use cs_rows::Rows;
@@ -38,7 +38,7 @@ pub(crate) enum Settled {
     /// It is ignored, since it changes nothing.
     Ignored,
     /// The run ends at it.
-    Ended(Ending),
+    Ended(Halt),
 }
 
 impl Settled {
@@ -61,7 +61,7 @@ pub(crate) fn apply_entry<B: Rows, H: Fn(&Conflict) -> Choice>(
     noop: Noop,
     handler: &H,
     tally: &mut Tally,
-) -> Result<Option<Ending>, ApplyFault>
+) -> Result<Option<Halt>, ApplyFault>
     requires callable { H.IsAlwaysCallable handler.now }
     requires count { tally.old.ignored < usize.MAX }
     requires table { B.is_honest rows.old
@@ -165,7 +165,7 @@ fn ask<H: Fn(&Conflict) -> Choice>(
     let conflict = Conflict::copy_of(alloc, kind, table, entry, current)?;
     let choice = handler(&conflict);
     if ends_run(kind, choice) {
-        return Ok(Settled::Ended(Ending::at(conflict, choice)));
+        return Ok(Settled::Ended(Halt::at(conflict, choice)));
     }
     conflicts.push(Met { conflict, choice })?;
     Ok(settled_by(choice))
@@ -212,8 +212,8 @@ fn carry_out<B: Rows>(
     ensures written { B.is_honest rows.new → OnOk result (B.state rows.new
         ≡ with_result (B.state rows.old) (rc_str_bytes table.now) key
         (row_of_change entry.now.flags entry.now.entry.change current)) }
-    ensures told { OnOk result ((told : List WrittenData) → Tells written.old told
-        → Tells written.new (told ++ record { table = rc_str_bytes table.now; key = key; former = current } ∷ [])) }
+    ensures reported { OnOk result ((reported : List WrittenData) → Tallies written.old reported
+        → Tallies written.new (reported ++ record { table = rc_str_bytes table.now; key = key; former = current } ∷ [])) }
     ensures listed { is_listed written.new ≡ is_listed written.old }
     ensures refused { IfErr result IsResource }
     ensures caused { B.is_honest rows.new → IfErr result (IsCaused (B.fails

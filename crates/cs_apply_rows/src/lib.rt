@@ -13,9 +13,9 @@
 #![tactic(auto)]
 
 mod conflict;
-mod ending;
 mod entry;
 mod fault;
+mod halt;
 mod judging;
 mod owned;
 mod policy;

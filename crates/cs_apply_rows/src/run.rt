@@ -11,14 +11,14 @@ ghost use Rattle.cs_apply_conflicts.specs.declared.judging.Judgement.TheVariants
 ghost use Rattle.cs_apply_conflicts.specs.declared.conflict.Noop.TheVariants.{Report as Reported};
 ghost use Rattle.cs_apply_rows.specs.Running.{IsCaused, IsResource};
 ghost use Rattle.cs_apply_rows.specs.Steps.{HasTable, IsStoreRefusal, header_in};
-ghost use Rattle.cs_apply_rows.specs.Tally.{Tells, is_listed};
+ghost use Rattle.cs_apply_rows.specs.Tally.{Tallies, is_listed};
 ghost use Rattle.cs_apply_rows.specs.Run.{IsAtStart, IsBehind, IsNewEntry, TakesEntries, TakesTable, answer_of, group_of};
 ghost use Rattle.cs_apply_rows.specs.Writes.{IsEntryWrite};
 
 use crate::conflict::Conflict;
-use crate::ending::Ending;
 use crate::entry::apply_entry;
 use crate::fault::ApplyFault;
+use crate::halt::Halt;
 use crate::judging::judge_table;
 use crate::tally::{Tally, Writings};
 use cs_apply_conflicts::{Choice, Judgement, Noop};
@@ -41,7 +41,7 @@ pub(crate) struct Run {
     // The index of the first table with more columns than its group.
     wider: Option<usize>,
     // How the run ended, if it ended at an entry.
-    ended: Option<Ending>,
+    ended: Option<Halt>,
     // What is done about no-op entries.
     noop: Noop,
     tally: Tally,
@@ -50,7 +50,7 @@ pub(crate) struct Run {
 impl Run {
     /// Returns a run before its first item.
     pub(crate) fn new(alloc: Global, noop: Noop, written: Writings) -> Result<Run, NoMemory>
-        requires { Tells written [] }
+        requires { Tallies written [] }
         ensures start { IfOk result IsAtStart }
         ensures noop { IfOk result (λ run. run.noop ≡ noop) }
         ensures listed { IfOk result (λ run. is_listed run.tally.written ≡ is_listed written) }

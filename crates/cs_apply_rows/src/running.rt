@@ -7,10 +7,10 @@ ghost use Rattle.cs_wire_entries.specs.declared.entry.Entry.{Entry as EntryData}
 ghost use Rattle.cs_wire.specs.Entry.{IsEntry};
 ghost use Rattle.cs_wire.specs.Changeset.{GroupData, IsGroup};
 ghost use Rattle.cs_wire.specs.Headers.{header_of};
-ghost use Rattle.cs_file_tables.specs.Tables.{AreLeft};
-ghost use Rattle.cs_apply_rows.specs.Running.{Applies, AppliesTold, Refuses, IsCaused, IsNamed, IsResource};
+ghost use Rattle.cs_file_tables.specs.Tables.{EntriesLeft};
+ghost use Rattle.cs_apply_rows.specs.Running.{Applies, AppliesTallied, Refuses, IsCaused, IsNamed, IsResource};
 ghost use Rattle.cs_apply_rows.specs.Steps.{IsStoreRefusal};
-ghost use Rattle.cs_apply_rows.specs.Tally.{Tells, is_listed};
+ghost use Rattle.cs_apply_rows.specs.Tally.{Tallies, is_listed};
 ghost use Rattle.cs_apply_rows.specs.Run.{IsBehind, directed_entry, directed_group, group_of};
 ghost use Rattle.cs_apply_rows.specs.Writes.{IsFileWrite, IsGroupWrite};
 
@@ -96,9 +96,9 @@ pub fn tally_in<B: Rows, H: Fn(&Conflict) -> Choice>(
     written: Writings,
 ) -> Result<Tally, ApplyFault>
     requires callable { H.IsAlwaysCallable handler.now }
-    requires none { Tells written [] }
+    requires none { Tallies written [] }
     ensures applied { B.is_honest rows.new → IfOk result (λ tally.
-        AppliesTold (FnReturnsAt H.Fn handler.now) noop file.now direction (B.state rows.old) tally
+        AppliesTallied (FnReturnsAt H.Fn handler.now) noop file.now direction (B.state rows.old) tally
         (B.state rows.new)) }
     ensures listed { IfOk result (λ tally. is_listed tally.written ≡ is_listed written) }
     ensures refused { B.is_honest rows.new → IfErr result
@@ -143,7 +143,7 @@ fn take_table<B: Rows, H: Fn(&Conflict) -> Choice>(
     requires room { length tables.old.file ≤ usize.MAX }
     requires flags { tables.old.flags ≡ (header_of header).flags }
     ensures behind { B.is_honest rows.new → OnOk result ((before : State) (closed : List GroupData)
-        (entries : List EntryData) (others : List GroupData) → AreLeft tables.old entries others
+        (entries : List EntryData) (others : List GroupData) → EntriesLeft tables.old entries others
         → IsGroup (group_of (header_of header.entry) entries)
         → AllByRecursion (λ g. g.header.name ≢ (header_of header.entry).name) closed
         → IsBehind (FnReturnsAt H.Fn handler.now) before closed run.old (B.state rows.old)
@@ -151,7 +151,7 @@ fn take_table<B: Rows, H: Fn(&Conflict) -> Choice>(
         (closed ++ directed_group direction (group_of (header_of header.entry) entries) ∷ []) run.new
         (B.state rows.new)) }
     ensures left { OnOk result ((entries : List EntryData) (others : List GroupData)
-        → AreLeft tables.old entries others → AreLeft tables.new [] others) }
+        → EntriesLeft tables.old entries others → EntriesLeft tables.new [] others) }
     ensures file { tables.new.file ≡ tables.old.file }
     ensures place { (tables.old.place ≤ tables.new.place) × (tables.new.place ≤ length tables.new.file) }
     ensures tables { OnOk result (run.new.tables ≡ run.old.tables + 1) }
@@ -161,11 +161,11 @@ fn take_table<B: Rows, H: Fn(&Conflict) -> Choice>(
     ensures refused { B.is_honest rows.new → IfErr result IsResource }
     ensures named { IfErr result IsStoreRefusal }
     ensures caused { B.is_honest rows.new → (entries : List EntryData) (others : List GroupData)
-        → AreLeft tables.old entries others → IfErr result (IsCaused (B.fails
+        → EntriesLeft tables.old entries others → IfErr result (IsCaused (B.fails
         (IsGroupWrite (directed_group direction (group_of (header_of header.entry) entries))) rows.old rows.new)) }
     ensures was_honest { B.is_honest rows.new → B.is_honest rows.old }
     ensures kept { (entries : List EntryData) (others : List GroupData)
-        → AreLeft tables.old entries others
+        → EntriesLeft tables.old entries others
         → B.keeps (IsGroupWrite (directed_group direction (group_of (header_of header.entry) entries)))
         (is_ok result) rows.old rows.new }
 {

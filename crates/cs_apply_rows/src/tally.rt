@@ -3,7 +3,7 @@ ghost use Rattle.std.specs.Prelude.{◌≡◌, ◌∷◌, ◌++◌, [], IsTrue, 
 ghost use Rattle.std.specs.Rc.{rc_str_bytes};
 ghost use Rattle.cs_value.specs.State.{WrittenData};
 ghost use Rattle.cs_rows.specs.Editing.{written_of};
-ghost use Rattle.cs_apply_rows.specs.Tally.{Tells, count_told, is_listed};
+ghost use Rattle.cs_apply_rows.specs.Tally.{Tallies, count_in, is_listed};
 
 use crate::conflict::Met;
 use crate::report::{Report, Summary};
@@ -24,7 +24,7 @@ pub enum Writings {
 impl Writings {
     /// Returns the number of entries.
     fn count(&self) -> usize
-        ensures { result ≡ count_told self.now }
+        ensures { result ≡ count_in self.now }
     {
         match self {
             Writings::Listed(written) => written.len(),
@@ -39,8 +39,8 @@ impl Writings {
         key: Key,
         former: Option<Row>,
     ) -> Result<(), NoMemory>
-        ensures told { OnOk result ((told : List WrittenData) → Tells self.old told
-            → Tells self.new (told ++ record { table = rc_str_bytes table.now; key = key; former = former } ∷ [])) }
+        ensures reported { OnOk result ((reported : List WrittenData) → Tallies self.old reported
+            → Tallies self.new (reported ++ record { table = rc_str_bytes table.now; key = key; former = former } ∷ [])) }
         ensures listed { is_listed self.new ≡ is_listed self.old }
     {
         match self {
@@ -89,8 +89,8 @@ impl Tally {
         requires { IsTrue (is_listed self.written) }
         ensures conflicts { result.conflicts ≡ self.conflicts }
         ensures skipped { result.skipped ≡ self.skipped }
-        ensures written { (told : List WrittenData) → Tells self.written told
-            → map written_of result.written.items ≡ told }
+        ensures written { (reported : List WrittenData) → Tallies self.written reported
+            → map written_of result.written.items ≡ reported }
         ensures ignored { result.ignored ≡ self.ignored }
     {
         let Tally {
@@ -114,7 +114,7 @@ impl Tally {
     pub fn into_summary(self) -> Summary
         ensures conflicts { result.conflicts ≡ self.conflicts }
         ensures skipped { result.skipped ≡ self.skipped }
-        ensures written { result.written ≡ count_told self.written }
+        ensures written { result.written ≡ count_in self.written }
         ensures ignored { result.ignored ≡ self.ignored }
     {
         let Tally {

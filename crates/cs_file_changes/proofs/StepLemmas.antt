@@ -14,10 +14,10 @@ use Rattle.cs_wire_entries.specs.Changeset.{HeaderData, GroupData, IsFileOf, IsG
 use Rattle.cs_wire_entries.specs.ReadFaults.{HasEntry, Stands}
 use Rattle.cs_wire_entries.proofs.ReadingLemmas.{first_byte, rest_is}
 use Rattle.cs_wire.proofs.GroupsLemmas.{group_bytes-append, same_group}
-use Rattle.cs_file_tables.specs.Tables.{TablesData, AreLeft as AreTablesLeft}
+use Rattle.cs_file_tables.specs.Tables.{TablesData, ChangesLeft as AreTablesLeft}
 use Rattle.cs_file_tables.proofs.TablesLemmas.{entry_left, no_entry_left, no_table_left, table_left}
 use Rattle.cs_file_changes.specs.declared.change.ChangeSpan.{ChangeSpan}
-use Rattle.cs_file_changes.specs.Changes.{AreLeft, IsInTable, IsStep, ShowsTable, TableChange, changes_of, changes_with, passed_bytes}
+use Rattle.cs_file_changes.specs.Changes.{ChangesLeft, IsInTable, IsStep, ShowsTable, TableChange, changes_of, changes_with, passed_bytes}
 use Rattle.cs_file_changes.specs.Steps.{IsBetween}
 use Rattle.cs_file_changes.proofs.PartLemmas.{Stands-length, Stands-part}
 
@@ -106,7 +106,7 @@ module _ (file : List ℕ) (all : List GroupData) (left : List TableChange) (pla
       }
 
 -- where no change of the open table is next, a table is, or the end
-pub between_of : (file : List ℕ) (all : List GroupData) (left : List TableChange) (place : ℕ) (span : ChangeSpan) → IsFileOf file all → AreLeft file all left place span → (0 < place → HasEntry file place → ⊥) → IsBetween all left place
+pub between_of : (file : List ℕ) (all : List GroupData) (left : List TableChange) (place : ℕ) (span : ChangeSpan) → IsFileOf file all → ChangesLeft file all left place span → (0 < place → HasEntry file place → ⊥) → IsBetween all left place
 unfolding header_bytes
 between_of file all left place span is_file (inl start) none = record {
   closed = [];
@@ -271,6 +271,6 @@ module _ (file : List ℕ) (all : List GroupData) (left : List TableChange) (pla
       }
 
 -- behind the start of the file a table is open
-pub in_table_of : (file : List ℕ) (all : List GroupData) (left : List TableChange) (place : ℕ) (span : ChangeSpan) → AreLeft file all left place span → 0 < place → IsInTable file all left place span
+pub in_table_of : (file : List ℕ) (all : List GroupData) (left : List TableChange) (place : ℕ) (span : ChangeSpan) → ChangesLeft file all left place span → 0 < place → IsInTable file all left place span
 in_table_of file all left place span (inl start) some = absurd (omega (arith, start.place_is))
 in_table_of file all left place span (inr so) some = so

@@ -89,8 +89,8 @@ pub record IsInTable (file : List ℕ) (all : List GroupData) (left : List Table
   pub table : ShowsTable file span header
 
 -- these changes of the file of a changeset are left at this offset, after the change of the span
-abbrev pub AreLeft : List ℕ → List GroupData → List TableChange → ℕ → ChangeSpan → Type 0
-AreLeft file all left place span = IsAtStart all left place ⊎ IsInTable file all left place span
+abbrev pub ChangesLeft : List ℕ → List GroupData → List TableChange → ℕ → ChangeSpan → Type 0
+ChangesLeft file all left place span = IsAtStart all left place ⊎ IsInTable file all left place span
 
 -- the span is that of the first change that is left, and the others are left at this offset
 pub record IsStep (file : List ℕ) (all : List GroupData) (left : List TableChange) (span : ChangeSpan) (place : ℕ)
@@ -99,4 +99,4 @@ pub record IsStep (file : List ℕ) (all : List GroupData) (left : List TableCha
   pub others : List TableChange
   pub left_is : left ≡ change ∷ others
   pub shows : Shows file span change
-  pub are_left : AreLeft file all others place span
+  pub are_left : ChangesLeft file all others place span

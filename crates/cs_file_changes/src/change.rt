@@ -5,7 +5,7 @@ ghost use Rattle.cs_wire_entries.specs.declared.fault.ReadFault.{ReadFault as Re
 ghost use Rattle.cs_wire_entries.specs.declared.fault.ReadFaultKind.TheVariants.{EmptyGroup};
 ghost use Rattle.cs_wire_entries.specs.Changeset.{GroupData, HeaderData, IsFileOf, IsHeader, header_bytes};
 ghost use Rattle.cs_wire_entries.specs.ReadFaults.{EntryStart, HasEntry, Stands, TableStart};
-ghost use Rattle.cs_file_changes.specs.Changes.{AreLeft, EndsName, IsInTable, IsStep, LiesIn, ShowsTable, TableChange};
+ghost use Rattle.cs_file_changes.specs.Changes.{ChangesLeft, EndsName, IsInTable, IsStep, LiesIn, ShowsTable, TableChange};
 ghost use Rattle.cs_file_changes.specs.Readable.{AreAll, IsUnreadable, ReadsOn, WereRead};
 ghost use Rattle.cs_file_changes.specs.Steps.{IsBetween, NoEntry, NoTable, OpensTable, PassesEntry};
 
@@ -69,11 +69,11 @@ pub fn next_change(
     place: usize,
     last: &ChangeSpan,
 ) -> Result<Option<(ChangeSpan, usize)>, ReadFault>
-    ensures next { (all : List GroupData) (left : List TableChange) → IsFileOf file.now all → AreLeft file.now all left place last.now
+    ensures next { (all : List GroupData) (left : List TableChange) → IsFileOf file.now all → ChangesLeft file.now all left place last.now
         → IfOk result (λ found. IfSome found (λ step. IsStep file.now all left step.0 step.1)) }
-    ensures done { (all : List GroupData) (left : List TableChange) → IsFileOf file.now all → AreLeft file.now all left place last.now
+    ensures done { (all : List GroupData) (left : List TableChange) → IsFileOf file.now all → ChangesLeft file.now all left place last.now
         → result ≡ Ok None → left ≡ [] }
-    ensures no_fault { (all : List GroupData) (left : List TableChange) → IsFileOf file.now all → AreLeft file.now all left place last.now
+    ensures no_fault { (all : List GroupData) (left : List TableChange) → IsFileOf file.now all → ChangesLeft file.now all left place last.now
         → IfErr result (λ _. ⊥) }
     ensures ended { (result ≡ Ok None) ↔ (place ≡ length file.now) }
     ensures reads { (groups : List GroupData) → WereRead file.now groups place last.now

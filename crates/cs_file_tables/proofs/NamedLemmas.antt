@@ -14,8 +14,8 @@ use Rattle.cs_wire.specs.ReadFaults.{Stands}
 use Rattle.cs_file_tables.specs.Checked.{HasTable, group_of}
 use Rattle.cs_wire.specs.Headers.{header_of}
 use Rattle.cs_file_tables.specs.Named.{NamedTable, NamedData, IsTableOf, AreTablesOf, AreListed, IsListing, tables_from, no_table}
-use Rattle.cs_file_tables.specs.Tables.{TablesData, AreLeft, IsNextTable}
-use Rattle.cs_wire.specs.Views.{IsPlaceOf}
+use Rattle.cs_file_tables.specs.Tables.{TablesData, EntriesLeft, IsNextTable}
+use Rattle.cs_wire.specs.Views.{IsIndexWhere}
 use Rattle.cs_wire_entries.proofs.ReadingLemmas.{Stands-then}
 
 -- one more table
@@ -37,9 +37,9 @@ pub record ListedFront (file : List ℕ) (tables : List NamedTable) (now : Table
   pub entries : List Entry
   pub whole : groups ≡ before ++ others
   pub listed : AreTablesOf file tables before others
-  pub are_left : AreLeft now entries others
+  pub are_left : EntriesLeft now entries others
 
-pub ListedFront-none : (file : List ℕ) (now : TablesData) (entries : List Entry) (groups : List GroupData) → AreLeft now entries groups → ListedFront file [] now groups
+pub ListedFront-none : (file : List ℕ) (now : TablesData) (entries : List Entry) (groups : List GroupData) → EntriesLeft now entries groups → ListedFront file [] now groups
 unfolding AreTablesOf
 ListedFront-none file now entries groups left = record { before = []; others = groups; entries = entries; whole = refl; listed = tt; are_left = left }
 
@@ -56,7 +56,7 @@ ListedFront-next file tables now next groups so header table is same table_is =
       entries = is.group.entries;
       whole = so.whole ∙ ap (λ (gs : List GroupData). so.before ++ gs) is.is ∙ sym (append_assoc so.before (is.group ∷ []) is.others);
       listed = tables_push file tables so.before is.others table is.group (subst (AreTablesOf file tables so.before) is.is so.listed)
-          (record { header = ap (λ (t : NamedTable). t.header) table_is ∙ is.header_is; are_left = subst (λ (t : TablesData). AreLeft t is.group.entries is.others) (sym at) is.are_left });
+          (record { header = ap (λ (t : NamedTable). t.header) table_is ∙ is.header_is; are_left = subst (λ (t : TablesData). EntriesLeft t is.group.entries is.others) (sym at) is.are_left });
       are_left = is.are_left;
     }
 
@@ -70,13 +70,13 @@ module _ (file : List ℕ) where
   tables_length (t ∷ tables) [] behind are = absurd are
   tables_length (t ∷ tables) (g ∷ groups) behind are = ap suc (tables_length tables groups behind are.1)
 
-  pub table_at : (tables : List NamedTable) (groups behind : List GroupData) (place : ℕ) (t : NamedTable) (g : GroupData) → AreTablesOf file tables groups behind → place < length tables
-      → IsTableOf file (get_or tables place t) (get_or groups place g) (drop (suc place) groups ++ behind)
+  pub table_at : (tables : List NamedTable) (groups behind : List GroupData) (index : ℕ) (t : NamedTable) (g : GroupData) → AreTablesOf file tables groups behind → index < length tables
+      → IsTableOf file (get_or tables index t) (get_or groups index g) (drop (suc index) groups ++ behind)
   unfolding AreTablesOf
-  table_at [] groups behind place t g are lt = absurd (omega arith)
-  table_at (x ∷ tables) [] behind place t g are lt = absurd are
+  table_at [] groups behind index t g are lt = absurd (omega arith)
+  table_at (x ∷ tables) [] behind index t g are lt = absurd are
   table_at (x ∷ tables) (y ∷ groups) behind zero t g are lt = are.0
-  table_at (x ∷ tables) (y ∷ groups) behind (suc place) t g are lt = table_at tables groups behind place t g are.1 (omega arith)
+  table_at (x ∷ tables) (y ∷ groups) behind (suc index) t g are lt = table_at tables groups behind index t g are.1 (omega arith)
 
   -- groups of tables whose names differ have names that differ
   pub names_apart : (tables : List NamedTable) (groups behind : List GroupData) → AreTablesOf file tables groups behind → AllPairs (λ s t. s.header.name ≢ t.header.name) tables
@@ -95,10 +95,10 @@ module _ (named : NamedData) (groups : List GroupData) (listed : AreListed named
       none k no_table within (ap (λ (h : HeaderData). h.name) (table_at named.file named.tables groups [] k no_table d listed within).header ∙ same)
 
   -- else the group of that table has
-  pub group_named : (place : ℕ) → IsPlaceOf (λ t. t.header.name ≡ name) named.tables place → IsPlaceOf (λ g. g.header.name ≡ name) groups place
-  group_named place at = record {
+  pub group_named : (index : ℕ) → IsIndexWhere (λ t. t.header.name ≡ name) named.tables index → IsIndexWhere (λ g. g.header.name ≡ name) groups index
+  group_named index at = record {
     within = omega (arith, at.within, tables_length named.file named.tables groups [] listed);
-    holds = λ d. ap (λ (h : HeaderData). h.name) (sym (table_at named.file named.tables groups [] place no_table d listed at.within).header) ∙ at.holds no_table;
+    holds = λ d. ap (λ (h : HeaderData). h.name) (sym (table_at named.file named.tables groups [] index no_table d listed at.within).header) ∙ at.holds no_table;
   }
 
 -- ---- tables that are listed as a file is checked
@@ -130,7 +130,7 @@ CheckedFront-next file tables place end so table has new =
       each = All-push IsGroup so.groups group so.each has.is_group;
       stand = rw (flat_map-append group_bytes so.groups (group ∷ []), append-nil) (Stands-then file 0 place end (file_bytes so.groups) (group_bytes group) so.stand has.stands);
       listed = λ others all is.
-          let left : AreLeft (tables_from file table) has.entries others = record {
+          let left : EntriesLeft (tables_from file table) has.entries others = record {
             within = has.within;
             each = recursion_from_All (IsEntry table.header.flags) has.entries has.is_group.each;
             are_groups = all;

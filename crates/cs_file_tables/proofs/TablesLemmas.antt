@@ -11,7 +11,7 @@ use Rattle.cs_wire.specs.Changeset.{HeaderData, GroupData, IsFileOf, IsGroup, Is
 use Rattle.cs_wire.specs.Headers.{header_of}
 use Rattle.cs_wire.specs.Items.{FlaggedEntry}
 use Rattle.cs_wire.specs.ReadFaults.{Stands, HasEntry}
-use Rattle.cs_file_tables.specs.Tables.{TablesData, AreLeft, IsNextEntry, IsNextTable, NextEntry}
+use Rattle.cs_file_tables.specs.Tables.{TablesData, EntriesLeft, IsNextEntry, IsNextTable, NextEntry}
 use Rattle.cs_wire.proofs.EntriesLemmas.{HasEntry-entry, not_ended}
 use Rattle.cs_wire.proofs.GroupsLemmas.{ends_group, group_bytes-append, group_bytes_some}
 use Rattle.cs_wire_entries.proofs.ReadingLemmas.{rest_is}
@@ -20,8 +20,8 @@ abbrev at_place : List ℕ → ℕ → List ℕ → TablesData
 at_place file place flags = record { file = file; place = place; flags = flags }
 
 -- before the first table, all are left
-pub AreLeft-all : (file : List ℕ) (groups : List GroupData) → IsFileOf file groups → AreLeft (at_place file 0 []) [] groups
-AreLeft-all file groups is = record {
+pub EntriesLeft-all : (file : List ℕ) (groups : List GroupData) → IsFileOf file groups → EntriesLeft (at_place file 0 []) [] groups
+EntriesLeft-all file groups is = record {
   within = omega arith;
   each = tt;
   are_groups = recursion_from_All IsGroup groups is.0.each;
@@ -31,18 +31,18 @@ AreLeft-all file groups is = record {
 -- ---- entries
 
 -- where no entry is to be read, none is left
-pub no_entry_left : (tables : TablesData) (entries : List Entry) (groups : List GroupData) → AreLeft tables entries groups → (HasEntry tables.file tables.place → ⊥) → (entries ≡ []) × (tables.flags ≡ tables.flags) × AreLeft tables [] groups
+pub no_entry_left : (tables : TablesData) (entries : List Entry) (groups : List GroupData) → EntriesLeft tables entries groups → (HasEntry tables.file tables.place → ⊥) → (entries ≡ []) × (tables.flags ≡ tables.flags) × EntriesLeft tables [] groups
 no_entry_left tables [] groups so none = (refl, refl, so)
 no_entry_left tables (entry ∷ entries) groups so none =
     absurd (none (HasEntry-entry tables.file tables.place entry (entries_bytes entries ++ file_bytes groups) so.within (so.spelled ∙ append_assoc (entry_bytes entry) (entries_bytes entries) (file_bytes groups))))
 
 -- else one is, which is read
-module _ (tables : TablesData) (entries : List Entry) (groups : List GroupData) (so : AreLeft tables entries groups) (here : HasEntry tables.file tables.place) where
+module _ (tables : TablesData) (entries : List Entry) (groups : List GroupData) (so : EntriesLeft tables entries groups) (here : HasEntry tables.file tables.place) where
   pub entry_left : (entry : Entry) × (others : List Entry) × (entries ≡ entry ∷ others) × IsEntry tables.flags entry × (drop tables.place tables.file ≡ entry_bytes entry ++ (entries_bytes others ++ file_bytes groups))
       × AllByRecursion (IsEntry tables.flags) others
   entry_left = by entries so
     where
-      by : (es : List Entry) → AreLeft tables es groups → (entry : Entry) × (others : List Entry) × (es ≡ entry ∷ others) × IsEntry tables.flags entry × (drop tables.place tables.file ≡ entry_bytes entry ++ (entries_bytes others ++ file_bytes groups))
+      by : (es : List Entry) → EntriesLeft tables es groups → (entry : Entry) × (others : List Entry) × (es ≡ entry ∷ others) × IsEntry tables.flags entry × (drop tables.place tables.file ≡ entry_bytes entry ++ (entries_bytes others ++ file_bytes groups))
           × AllByRecursion (IsEntry tables.flags) others
       by [] so = absurd (not_ended tables.file tables.place here (rw so.spelled (ends_group groups)))
       by (entry ∷ others) so = (entry, others, refl, so.each.0, so.spelled ∙ append_assoc (entry_bytes entry) (entries_bytes others) (file_bytes groups), so.each.1)
@@ -69,17 +69,17 @@ module _ (tables : TablesData) (entries : List Entry) (groups : List GroupData) 
 -- ---- tables
 
 -- at the end of the file no table is left
-pub no_table_left : (tables : TablesData) (groups : List GroupData) → AreLeft tables [] groups → length tables.file ≤ tables.place → (groups ≡ []) × AreLeft tables [] []
+pub no_table_left : (tables : TablesData) (groups : List GroupData) → EntriesLeft tables [] groups → length tables.file ≤ tables.place → (groups ≡ []) × EntriesLeft tables [] []
 no_table_left tables [] so le = (refl, so)
 no_table_left tables (group ∷ groups) so le =
     absurd (omega (arith, ap length (sym (drop_all tables.place tables.file le) ∙ so.spelled), length-append (group_bytes group) (file_bytes groups), group_bytes_some group))
 
-module _ (tables : TablesData) (groups : List GroupData) (so : AreLeft tables [] groups) (within : tables.place < length tables.file) where
+module _ (tables : TablesData) (groups : List GroupData) (so : EntriesLeft tables [] groups) (within : tables.place < length tables.file) where
   pub table_left : (group : GroupData) × (others : List GroupData) × (groups ≡ group ∷ others) × IsGroup group × (drop tables.place tables.file ≡ header_bytes group.header ++ (entries_bytes group.entries ++ file_bytes others))
       × AllByRecursion IsGroup others
   table_left = by groups so
     where
-      by : (gs : List GroupData) → AreLeft tables [] gs → (group : GroupData) × (others : List GroupData) × (gs ≡ group ∷ others) × IsGroup group
+      by : (gs : List GroupData) → EntriesLeft tables [] gs → (group : GroupData) × (others : List GroupData) × (gs ≡ group ∷ others) × IsGroup group
           × (drop tables.place tables.file ≡ header_bytes group.header ++ (entries_bytes group.entries ++ file_bytes others)) × AllByRecursion IsGroup others
       by [] so = absurd (omega (arith, within, ap length so.spelled, length-drop tables.place tables.file))
       by (group ∷ others) so = (group, others, refl, so.are_groups.0, so.spelled ∙ group_bytes-append group (file_bytes others), so.are_groups.1)
@@ -106,11 +106,11 @@ module _ (tables : TablesData) (groups : List GroupData) (so : AreLeft tables []
       }
 
 -- entries that are passed over
-pub passed_over : (flags : List ℕ) (entries : List Entry) (groups : List GroupData) (next : Option FlaggedEntry) (after : TablesData) → NextEntry flags entries groups next after → (left : List Entry) × AreLeft after left groups
+pub passed_over : (flags : List ℕ) (entries : List Entry) (groups : List GroupData) (next : Option FlaggedEntry) (after : TablesData) → NextEntry flags entries groups next after → (left : List Entry) × EntriesLeft after left groups
 passed_over flags entries groups None after next = ([], next.2)
 passed_over flags entries groups (Some seen) after next = (next.others, next.are_left)
 
-pub all_passed : (flags : List ℕ) (entries : List Entry) (groups : List GroupData) (next : Option FlaggedEntry) (after : TablesData) → NextEntry flags entries groups next after → is_some next ≡ false → AreLeft after [] groups
+pub all_passed : (flags : List ℕ) (entries : List Entry) (groups : List GroupData) (next : Option FlaggedEntry) (after : TablesData) → NextEntry flags entries groups next after → is_some next ≡ false → EntriesLeft after [] groups
 all_passed flags entries groups None after next none = next.2
 all_passed flags entries groups (Some seen) after next none = absurd cc
 
@@ -118,7 +118,7 @@ all_passed flags entries groups (Some seen) after next none = absurd cc
 pub record PassedEntries (before : List Entry) (now : TablesData) (entries : List Entry) (groups : List GroupData) : Type 0 where
   pub others : List Entry
   pub whole : entries ≡ before ++ others
-  pub are_left : AreLeft now others groups
+  pub are_left : EntriesLeft now others groups
 
 pub PassedEntries-next : (before grown : List Entry) (now next : TablesData) (entries : List Entry) (groups : List GroupData) (so : PassedEntries before now entries groups) (seen : FlaggedEntry)
     → IsNextEntry now.flags so.others groups seen next → grown ≡ before ++ seen.entry ∷ [] → PassedEntries grown next entries groups

@@ -6,7 +6,7 @@ use Rattle.cs_wire.specs.Entry.{key_of}
 use Rattle.cs_wire.specs.Changeset.{GroupData}
 use Rattle.cs_file_tables.specs.Chains.{ChainsData}
 use Rattle.cs_file_tables.specs.Distinct.{number_of}
-use Rattle.cs_file_tables.specs.Tables.{TablesData, AreLeft}
+use Rattle.cs_file_tables.specs.Tables.{TablesData, EntriesLeft}
 
 -- the file, the flags of the table, the byte offset of each entry and of the end, and the numbers of the keys
 pub record KeyedFile : Type 0 where
@@ -21,7 +21,7 @@ count_of keyed = length keyed.chains.numbers
 
 -- the file at the entry of this index
 abbrev pub entries_from : KeyedFile → ℕ → TablesData
-entries_from keyed place = record { file = keyed.file; place = get_or keyed.bounds place 0; flags = keyed.flags }
+entries_from keyed index = record { file = keyed.file; place = get_or keyed.bounds index 0; flags = keyed.flags }
 
 -- one more entry
 abbrev pub with_entry : KeyedFile → ℕ → ℕ → KeyedFile
@@ -38,5 +38,5 @@ key_number flags entry = number_of (key_of flags entry.change)
 
 -- these are the entries, behind which these groups are left
 pub record AreKeyed (keyed : KeyedFile) (entries : List Entry) (groups : List GroupData) : Type 0 where
-  pub left : (place : ℕ) → place ≤ length entries → AreLeft (entries_from keyed place) (drop place entries) groups
+  pub left : (index : ℕ) → index ≤ length entries → EntriesLeft (entries_from keyed index) (drop index entries) groups
   pub numbers : keyed.chains.numbers ≡ map (key_number keyed.flags) entries

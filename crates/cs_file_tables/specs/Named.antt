@@ -3,7 +3,7 @@ use Rattle.std.specs.Prelude.{◌≡◌, ℕ, List, [], ◌∷◌, ◌++◌, get
 use Rattle.cs_wire.specs.Changeset.{HeaderData, GroupData, IsFileOf}
 use Rattle.cs_file_tables.specs.declared.checked.ListedTable.{ListedTable}
 use Rattle.cs_wire.specs.Headers.{header_of}
-use Rattle.cs_file_tables.specs.Tables.{TablesData, AreLeft}
+use Rattle.cs_file_tables.specs.Tables.{TablesData, EntriesLeft}
 
 -- a table, and where its entries begin
 pub record NamedTable : Type 0 where
@@ -25,17 +25,17 @@ tables_from file table = record { file = file; place = table.start; flags = tabl
 abbrev pub no_table : NamedTable
 no_table = record { header = record { name = []; flags = [] }; start = 0 }
 
--- the header of the table at a place, and the file where its entries begin
+-- the header of the table at an index, and the file where its entries begin
 abbrev pub header_at : NamedData → ℕ → HeaderData
-header_at named place = (get_or named.tables place no_table).header
+header_at named index = (get_or named.tables index no_table).header
 
 abbrev pub tables_at : NamedData → ℕ → TablesData
-tables_at named place = tables_from named.file (get_or named.tables place no_table)
+tables_at named index = tables_from named.file (get_or named.tables index no_table)
 
 -- a table is that of the group, whose entries begin there, and these groups are behind it
 pub record IsTableOf (file : List ℕ) (table : NamedTable) (group : GroupData) (others : List GroupData) : Type 0 where
   pub header : table.header ≡ group.header
-  pub are_left : AreLeft (tables_from file table) group.entries others
+  pub are_left : EntriesLeft (tables_from file table) group.entries others
 
 -- the tables are those of the groups, and these groups are behind them
 unfoldable pub AreTablesOf : List ℕ → List NamedTable → List GroupData → List GroupData → Type 0

@@ -15,7 +15,7 @@ pub record TablesData : Type 0 where
   pub flags : List ℕ
 
 -- these entries of the table that is open are left, and these groups
-pub record AreLeft (tables : TablesData) (entries : List Entry) (groups : List GroupData) : Type 0 where
+pub record EntriesLeft (tables : TablesData) (entries : List Entry) (groups : List GroupData) : Type 0 where
   pub within : tables.place ≤ length tables.file
   pub each : AllByRecursion (IsEntry tables.flags) entries
   pub are_groups : AllByRecursion IsGroup groups
@@ -28,10 +28,10 @@ pub record IsNextEntry (flags : List ℕ) (entries : List Entry) (groups : List 
   pub is : entries ≡ seen.entry ∷ others
   pub flags_are : seen.flags ≡ flags
   pub flags_stay : after.flags ≡ flags
-  pub are_left : AreLeft after others groups
+  pub are_left : EntriesLeft after others groups
 
 abbrev pub NextEntry : List ℕ → List Entry → List GroupData → Option FlaggedEntry → TablesData → Type 0
-NextEntry flags entries groups None after = (entries ≡ []) × (after.flags ≡ flags) × AreLeft after [] groups
+NextEntry flags entries groups None after = (entries ≡ []) × (after.flags ≡ flags) × EntriesLeft after [] groups
 NextEntry flags entries groups (Some seen) after = IsNextEntry flags entries groups seen after
 
 -- the header is that of the next of the groups that are left, and its entries and the others are left then
@@ -42,8 +42,8 @@ pub record IsNextTable (groups : List GroupData) (header : HeaderRef) (after : T
   pub is_group : IsGroup group
   pub header_is : header_of header ≡ group.header
   pub flags_are : after.flags ≡ group.header.flags
-  pub are_left : AreLeft after group.entries others
+  pub are_left : EntriesLeft after group.entries others
 
 abbrev pub NextTable : List GroupData → Option HeaderRef → TablesData → Type 0
-NextTable groups None after = (groups ≡ []) × AreLeft after [] []
+NextTable groups None after = (groups ≡ []) × EntriesLeft after [] []
 NextTable groups (Some header) after = IsNextTable groups header after

@@ -1,4 +1,4 @@
-//! Numbers that are found by chains of their places.
+//! Numbers that are found by chains of their indices.
 ghost use Rattle.std.specs.Prelude.{◌≡◌, ◌<◌, ◌%◌, ◌++◌, ◌∷◌, [], IfOk, OnErr, OnOk, get_or, length};
 ghost use Rattle.cs_file_tables.specs.Chains.{IsEnd, bucket_at, bucket_of};
 
@@ -6,18 +6,18 @@ use cs_value::NoMemory;
 use std::alloc::Global;
 use std::marker::Model;
 
-/// A number, and one more than the previous place of its bucket, or 0 if it is the first.
+/// A number, and one more than the previous index of its bucket, or 0 if it is the first.
 #[derive(Debug, Drop)]
 struct Link {
     number: u64,
     before: usize,
 }
 
-/// A list of numbers. Each is in a bucket, and the places of a bucket are a chain, from the last to the first.
+/// A list of numbers. Each is in a bucket, and the indices of a bucket are a chain, from the last to the first.
 /// Contracts see the count of buckets and the numbers.
 #[derive(Debug, Drop)]
 pub(crate) struct NumberChains {
-    // For each bucket, one more than its last place, or 0 if it has none.
+    // For each bucket, one more than its last index, or 0 if it has none.
     ends: Vec<usize>,
     links: Vec<Link>,
 }
@@ -52,27 +52,27 @@ impl NumberChains {
         self.links.len()
     }
 
-    /// Returns the number at a zero-based place, which is below [`NumberChains::len`].
-    pub(crate) fn number(&self, place: usize) -> u64
-        requires { place < length self.now.numbers }
-        ensures { result ≡ get_or self.now.numbers place 0 }
+    /// Returns the number at a zero-based index, which is below [`NumberChains::len`].
+    pub(crate) fn number(&self, index: usize) -> u64
+        requires { index < length self.now.numbers }
+        ensures { result ≡ get_or self.now.numbers index 0 }
     {
-        self.links[place].number
+        self.links[index].number
     }
 
-    /// Returns one more than the last place of the bucket of a number, or 0 if it has none.
+    /// Returns one more than the last index of the bucket of a number, or 0 if it has none.
     pub(crate) fn end(&self, number: u64) -> usize
         ensures { IsEnd self.now (bucket_of self.now number) (length self.now.numbers) result }
     {
         self.ends[bucket(number, self.ends.len())]
     }
 
-    /// Returns one more than the previous place of the bucket of a place, or 0 if it has none.
-    pub(crate) fn before(&self, place: usize) -> usize
-        requires { place < length self.now.numbers }
-        ensures { IsEnd self.now (bucket_at self.now place) place result }
+    /// Returns one more than the previous index of the bucket of an index, or 0 if it has none.
+    pub(crate) fn before(&self, index: usize) -> usize
+        requires { index < length self.now.numbers }
+        ensures { IsEnd self.now (bucket_at self.now index) index result }
     {
-        self.links[place].before
+        self.links[index].before
     }
 
     /// Appends a number. [`NoMemory`] leaves the list unchanged.

@@ -4,10 +4,10 @@ ghost use Rattle.std.specs.Prelude.{is_none, is_some, length};
 ghost use Rattle.cs_wire_entries.specs.declared.entry.Entry.{Entry as EntryData};
 ghost use Rattle.cs_wire.specs.Changeset.{GroupData, IsNewKey};
 ghost use Rattle.cs_wire.specs.Entry.{entry_bytes, key_of};
-ghost use Rattle.cs_wire.specs.Views.{IsPlaceOf};
+ghost use Rattle.cs_wire.specs.Views.{IsIndexWhere};
 ghost use Rattle.cs_file_tables.specs.Distinct.{number_of as number_in};
 ghost use Rattle.cs_file_tables.specs.KeyedFile.{AreKeyed, count_of, with_entry};
-ghost use Rattle.cs_file_tables.specs.Tables.{AreLeft};
+ghost use Rattle.cs_file_tables.specs.Tables.{EntriesLeft};
 
 use crate::chains::NumberChains;
 use crate::checked::{key_number, part};
@@ -18,10 +18,10 @@ use cs_wire::{EntryRef, KeyColumns};
 use std::alloc::Global;
 use std::marker::Model;
 
-/// An entry, and its zero-based place among the entries of its table.
+/// An entry, and its zero-based index among the entries of its table.
 #[derive(Debug, Drop)]
 pub struct FoundEntry<'a> {
-    pub place: usize,
+    pub index: usize,
     pub entry: EntryRef<'a>,
 }
 
@@ -76,7 +76,7 @@ impl<'a> KeyedEntries<'a> {
     /// [`NoMemory`] if memory runs out.
     pub fn list(alloc: Global, tables: Tables<'a>) -> Result<KeyedEntries<'a>, NoMemory>
         ensures flags { IfOk result (λ keyed. keyed.flags ≡ tables.entry.flags) }
-        ensures entries { (entries : List EntryData) (groups : List GroupData) → AreLeft tables.entry entries groups
+        ensures entries { (entries : List EntryData) (groups : List GroupData) → EntriesLeft tables.entry entries groups
             → IfOk result (λ keyed. AreKeyed keyed entries groups) }
     {
         let mut keyed = KeyedEntries::with_capacity(alloc, &tables, tables.count())?;
@@ -112,14 +112,14 @@ impl<'a> KeyedEntries<'a> {
         self.chains.len()
     }
 
-    /// Returns the bytes of the entry at a zero-based place, which is below [`KeyedEntries::len`], as the file has
+    /// Returns the bytes of the entry at a zero-based index, which is below [`KeyedEntries::len`], as the file has
     /// them.
-    pub fn bytes(&self, place: usize) -> &'a [u8]
-        requires { place < count_of self.now }
+    pub fn bytes(&self, index: usize) -> &'a [u8]
+        requires { index < count_of self.now }
         ensures { (entries : List EntryData) (groups : List GroupData) → AreKeyed self.now entries groups
-            → IsPlaceOf (λ e. result.now ≡ entry_bytes e) entries place }
+            → IsIndexWhere (λ e. result.now ≡ entry_bytes e) entries index }
     {
-        part(self.file, self.bounds[place], self.bounds[place + 1])
+        part(self.file, self.bounds[index], self.bounds[index + 1])
     }
 
     /// Returns the entry with a key, or None if there is none. It allocates a copy of each key that has its number and
@@ -129,48 +129,48 @@ impl<'a> KeyedEntries<'a> {
     ///
     /// [`NoMemory`] if memory runs out.
     pub fn find(&self, alloc: Global, key: &[u8]) -> Result<Option<FoundEntry<'a>>, NoMemory>
-        ensures within { IfOk result (λ found. IfSome found (λ f. f.place < count_of self.now)) }
+        ensures within { IfOk result (λ found. IfSome found (λ f. f.index < count_of self.now)) }
         ensures flags { IfOk result (λ found. IfSome found (λ f. f.entry.flags ≡ self.now.flags)) }
         ensures key { IfOk result (λ found. IfSome found (λ f. key_of self.now.flags f.entry.entry.change ≡ key.now)) }
         ensures found { (entries : List EntryData) (groups : List GroupData) → AreKeyed self.now entries groups
-            → IfOk result (λ found. IfSome found (λ f. IsPlaceOf (λ e. e ≡ f.entry.entry) entries f.place)) }
+            → IfOk result (λ found. IfSome found (λ f. IsIndexWhere (λ e. e ≡ f.entry.entry) entries f.index)) }
         ensures absent { (entries : List EntryData) (groups : List GroupData) → AreKeyed self.now entries groups
             → IfOk result (λ found. IsTrue (is_none found) → IsNewKey self.now.flags entries key.now) }
     {
         let number = number_of(key);
         let mut end = self.chains.end(number);
-        'places: while 0 < end {
-            let place = end - 1;
-            if let Some(entry) = self.candidate(alloc, place, number, key)? {
-                return Ok(Some(FoundEntry { place, entry }));
+        'indices: while 0 < end {
+            let index = end - 1;
+            if let Some(entry) = self.candidate(alloc, index, number, key)? {
+                return Ok(Some(FoundEntry { index, entry }));
             }
-            end = self.chains.before(place);
+            end = self.chains.before(index);
         }
         Ok(None)
     }
 
-    /// Returns the entry at a zero-based place, if it has a key, which has this number.
+    /// Returns the entry at a zero-based index, if it has a key, which has this number.
     fn candidate(
         &self,
         alloc: Global,
-        place: usize,
+        index: usize,
         number: u64,
         key: &[u8],
     ) -> Result<Option<EntryRef<'a>>, NoMemory>
-        requires within { place < count_of self.now }
+        requires within { index < count_of self.now }
         requires number { number ≡ number_in key.now }
         ensures flags { IfOk result (λ entry. IfSome entry (λ e. e.flags ≡ self.now.flags)) }
         ensures key { IfOk result (λ entry. IfSome entry (λ e. key_of self.now.flags e.entry.change ≡ key.now)) }
         ensures found { (entries : List EntryData) (groups : List GroupData) → AreKeyed self.now entries groups
-            → IfOk result (λ entry. IfSome entry (λ e. IsPlaceOf (λ x. x ≡ e.entry) entries place)) }
+            → IfOk result (λ entry. IfSome entry (λ e. IsIndexWhere (λ x. x ≡ e.entry) entries index)) }
         ensures absent { (entries : List EntryData) (groups : List GroupData) → AreKeyed self.now entries groups
             → IfOk result (λ entry. IsTrue (is_none entry)
-            → IsPlaceOf (λ x. key_of self.now.flags x.change ≢ key.now) entries place) }
+            → IsIndexWhere (λ x. key_of self.now.flags x.change ≢ key.now) entries index) }
     {
-        if self.chains.number(place) != number {
+        if self.chains.number(index) != number {
             return Ok(None);
         }
-        let Some(entry) = self.entry(place) else {
+        let Some(entry) = self.entry(index) else {
             return Ok(None);
         };
         if has_key(alloc, &entry, key)? {
@@ -180,16 +180,16 @@ impl<'a> KeyedEntries<'a> {
         }
     }
 
-    /// Returns the entry at a zero-based place.
-    fn entry(&self, place: usize) -> Option<EntryRef<'a>>
-        requires { place < count_of self.now }
+    /// Returns the entry at a zero-based index.
+    fn entry(&self, index: usize) -> Option<EntryRef<'a>>
+        requires { index < count_of self.now }
         ensures flags { IfSome result (λ e. e.flags ≡ self.now.flags) }
         ensures some { (entries : List EntryData) (groups : List GroupData) → AreKeyed self.now entries groups
             → IsTrue (is_some result) }
         ensures found { (entries : List EntryData) (groups : List GroupData) → AreKeyed self.now entries groups
-            → IfSome result (λ e. IsPlaceOf (λ x. x ≡ e.entry) entries place) }
+            → IfSome result (λ e. IsIndexWhere (λ x. x ≡ e.entry) entries index) }
     {
-        Tables::at(self.file, self.bounds[place], self.flags, 0).next_entry()
+        Tables::at(self.file, self.bounds[index], self.flags, 0).next_entry()
     }
 }
 

@@ -7,11 +7,11 @@ ghost use Rattle.cs_wire.specs.Changeset.{GroupData, IsHeader};
 ghost use Rattle.cs_wire.specs.Headers.{header_of};
 ghost use Rattle.cs_wire.specs.ReadFaults.{ReadFails};
 ghost use Rattle.cs_file_tables.specs.Named.{AreListed, IsListing, header_at, table_of, tables_at};
-ghost use Rattle.cs_file_tables.specs.Tables.{AreLeft};
-ghost use Rattle.cs_wire.specs.Views.{IsPlaceOf};
+ghost use Rattle.cs_file_tables.specs.Tables.{EntriesLeft};
+ghost use Rattle.cs_wire.specs.Views.{IsIndexWhere};
 
 use crate::checked::{ListedTable, pass_table};
-use crate::hashed::HashedPlaces;
+use crate::hashed::HashedIndices;
 use crate::tables::Tables;
 use crate::visit::Unvisited;
 use cs_value::NoMemory;
@@ -26,8 +26,8 @@ use std::marker::Model;
 pub struct NamedTables<'a> {
     file: &'a [u8],
     tables: Vec<ListedTable<'a>>,
-    // The place of the table with each name.
-    places: HashedPlaces<'a>,
+    // The index of the table with each name.
+    indices: HashedIndices<'a>,
 }
 
 impl<'a> Model for NamedTables<'a> {
@@ -42,7 +42,7 @@ impl<'a> Model for NamedTables<'a> {
 
     ghost view = { λ n. record { file = n.file.now; tables = map table_of n.tables.items } };
 
-    ghost invariant = { λ n. IsIndex n.places (map (λ t. t.header.name) (map table_of n.tables.items))
+    ghost invariant = { λ n. IsIndex n.indices (map (λ t. t.header.name) (map table_of n.tables.items))
         × AllByRecursion (λ t. IsHeader (header_of t.header)) n.tables.items };
 }
 
@@ -90,7 +90,7 @@ impl<'a> NamedTables<'a> {
 
     /// Lists the remaining tables of a file that was read. Remaining entries of the open table are skipped.
     fn list(alloc: Global, tables: Tables<'a>) -> Result<NamedTables<'a>, NoMemory>
-        ensures { (entries : List EntryData) (groups : List GroupData) → AreLeft tables.entry entries groups
+        ensures { (entries : List EntryData) (groups : List GroupData) → EntriesLeft tables.entry entries groups
             → IfOk result (λ named. AreListed named groups) }
     {
         let mut named = NamedTables::new(alloc, tables.file());
@@ -112,7 +112,7 @@ impl<'a> NamedTables<'a> {
         NamedTables {
             file,
             tables: Vec::new(alloc),
-            places: HashedPlaces::new(alloc),
+            indices: HashedIndices::new(alloc),
         }
     }
 
@@ -124,9 +124,9 @@ impl<'a> NamedTables<'a> {
         ensures err { OnErr result (self.new ≡ self.old) }
     {
         let name = CowSlice::Borrowed(table.header.name.as_bytes());
-        let place = self.tables.len();
+        let index = self.tables.len();
         self.tables.push(table)?;
-        match self.places.insert(name, place) {
+        match self.indices.insert(name, index) {
             Ok(()) => Ok(()),
             Err(refusal) => {
                 self.tables.pop();
@@ -142,29 +142,29 @@ impl<'a> NamedTables<'a> {
         self.tables.len()
     }
 
-    /// Returns the zero-based place of the table with a name, or None if there is none. It allocates nothing.
+    /// Returns the zero-based index of the table with a name, or None if there is none. It allocates nothing.
     pub fn find(&self, name: &str) -> Option<usize>
-        ensures found { IfSome result (IsPlaceOf (λ t. t.header.name ≡ name.now) self.now.tables) }
+        ensures found { IfSome result (IsIndexWhere (λ t. t.header.name ≡ name.now) self.now.tables) }
         ensures absent { IsTrue (is_none result) ↔ All (λ t. t.header.name ≢ name.now) self.now.tables }
     {
-        self.places.get(name.as_bytes())
+        self.indices.get(name.as_bytes())
     }
 
-    /// Returns the header of the table at a zero-based place, which is below [`NamedTables::len`].
-    pub fn header(&self, place: usize) -> HeaderRef<'a>
-        requires { place < length self.now.tables }
-        ensures same { header_of result ≡ header_at self.now place }
+    /// Returns the header of the table at a zero-based index, which is below [`NamedTables::len`].
+    pub fn header(&self, index: usize) -> HeaderRef<'a>
+        requires { index < length self.now.tables }
+        ensures same { header_of result ≡ header_at self.now index }
         ensures well_formed { IsHeader (header_of result) }
     {
-        self.tables[place].header
+        self.tables[index].header
     }
 
-    /// Returns the file at the first entry of the table at a zero-based place, which is below [`NamedTables::len`].
-    pub fn open(&self, place: usize) -> Tables<'a>
-        requires { place < length self.now.tables }
-        ensures { result ≡ tables_at self.now place }
+    /// Returns the file at the first entry of the table at a zero-based index, which is below [`NamedTables::len`].
+    pub fn open(&self, index: usize) -> Tables<'a>
+        requires { index < length self.now.tables }
+        ensures { result ≡ tables_at self.now index }
     {
-        let table = &self.tables[place];
+        let table = &self.tables[index];
         Tables::at(self.file, table.start, table.header.flags, table.count)
     }
 }

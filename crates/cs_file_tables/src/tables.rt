@@ -6,7 +6,7 @@ ghost use Rattle.cs_wire.specs.Changeset.{GroupData, IsAccepted, IsFileOf, IsHea
 ghost use Rattle.cs_wire.specs.Entry.{IsEntry};
 ghost use Rattle.cs_wire.specs.Headers.{header_of};
 ghost use Rattle.cs_wire.specs.ReadFaults.{ReadFails};
-ghost use Rattle.cs_file_tables.specs.Tables.{AreLeft, NextEntry, NextTable};
+ghost use Rattle.cs_file_tables.specs.Tables.{EntriesLeft, NextEntry, NextTable};
 ghost use Rattle.cs_file_tables.specs.Visits.{IsVisited, group_text};
 
 use crate::checked::check_file;
@@ -49,7 +49,7 @@ impl<'a> Tables<'a> {
     /// memory runs out.
     pub fn read(alloc: Global, file: &'a [u8]) -> Result<Tables<'a>, ReadError>
         ensures found { IfOk result (λ tables. (groups : List GroupData) × IsFileOf file.now groups
-            × AreLeft tables [] groups) }
+            × EntriesLeft tables [] groups) }
         ensures file { IfOk result (λ tables. tables.file ≡ file.now) }
         ensures refused { IfErr result (Refuses (λ f. ReadFails file.now f.kind f.place)) }
     {
@@ -77,7 +77,7 @@ impl<'a> Tables<'a> {
         ensures visited { IfOk result (λ left. IfNone left (IsVisited (group_text V.header_text V.entry_text) file.now
             (V.written visitor.old) (V.written visitor.new))) }
         ensures unvisited { IfOk result (λ left. IfSome left (λ tables. (groups : List GroupData)
-            × IsFileOf file.now groups × AreLeft tables [] groups)) }
+            × IsFileOf file.now groups × EntriesLeft tables [] groups)) }
         ensures file { IfOk result (λ left. IfSome left (λ tables. tables.file ≡ file.now)) }
         ensures refused { IfErr result (Refuses (λ f. ReadFails file.now f.kind f.place)) }
     {
@@ -91,7 +91,7 @@ impl<'a> Tables<'a> {
     /// Returns the tables of a file that was read, from the first one on.
     fn whole(file: &'a [u8]) -> Tables<'a>
         requires { IsAccepted file.now }
-        ensures left { (groups : List GroupData) × IsFileOf file.now groups × AreLeft result [] groups }
+        ensures left { (groups : List GroupData) × IsFileOf file.now groups × EntriesLeft result [] groups }
         ensures file { result.file ≡ file.now }
     {
         Tables::at(file, 0, &[], 0)
@@ -149,7 +149,7 @@ impl<'a> Tables<'a> {
     /// Returns the header of the next table, or None after the last. Remaining entries of the previous table are
     /// skipped.
     pub fn next_table(&mut self) -> Option<HeaderRef<'a>>
-        ensures next { (entries : List EntryData) (groups : List GroupData) → AreLeft self.old entries groups
+        ensures next { (entries : List EntryData) (groups : List GroupData) → EntriesLeft self.old entries groups
             → NextTable groups result self.new }
         ensures well_formed { IfSome result (λ header. IsHeader (header_of header)) }
         ensures forward { IfSome result (λ _. (self.old.place < self.new.place)
@@ -162,8 +162,8 @@ impl<'a> Tables<'a> {
 
     /// Skips the remaining entries of the open table.
     fn pass_entries(&mut self)
-        ensures left { (entries : List EntryData) (groups : List GroupData) → AreLeft self.old entries groups
-            → AreLeft self.new [] groups }
+        ensures left { (entries : List EntryData) (groups : List GroupData) → EntriesLeft self.old entries groups
+            → EntriesLeft self.new [] groups }
         ensures ahead { self.old.place ≤ self.new.place }
         ensures file { self.new.file ≡ self.old.file }
     {
@@ -172,7 +172,7 @@ impl<'a> Tables<'a> {
 
     /// Returns the header of the next table, if no entry of the previous one remains.
     fn open_table(&mut self) -> Option<HeaderRef<'a>>
-        ensures next { (groups : List GroupData) → AreLeft self.old [] groups → NextTable groups result self.new }
+        ensures next { (groups : List GroupData) → EntriesLeft self.old [] groups → NextTable groups result self.new }
         ensures well_formed { IfSome result (λ header. IsHeader (header_of header)) }
         ensures forward { IfSome result (λ _. (self.old.place < self.new.place)
             × (self.new.place ≤ length self.new.file)) }
@@ -192,7 +192,7 @@ impl<'a> Tables<'a> {
 
     /// Returns the next entry of the open table, or None if none remains.
     pub fn next_entry(&mut self) -> Option<EntryRef<'a>>
-        ensures next { (entries : List EntryData) (groups : List GroupData) → AreLeft self.old entries groups
+        ensures next { (entries : List EntryData) (groups : List GroupData) → EntriesLeft self.old entries groups
             → NextEntry self.old.flags entries groups result self.new }
         ensures flags { (self.new.flags ≡ self.old.flags) × IfSome result (λ entry. entry.flags ≡ self.old.flags) }
         ensures well_formed { IfSome result (λ entry. IsEntry entry.flags entry.entry) }

@@ -4,7 +4,7 @@ use Rattle.std.specs.List.{flat_map}
 use Rattle.std.proofs.lemmas.Grind.{flat_map-append}
 use Rattle.cs_wire_entries.specs.declared.entry.Entry.{Entry}
 use Rattle.cs_wire.specs.Changeset.{HeaderData, GroupData}
-use Rattle.cs_file_tables.specs.Tables.{TablesData, AreLeft}
+use Rattle.cs_file_tables.specs.Tables.{TablesData, EntriesLeft}
 use Rattle.cs_file_texts.specs.declared.told.Told.{Told}
 use Rattle.cs_file_texts.specs.Gathering.{Gathered}
 use Rattle.cs_file_texts.specs.declared.texts.form.Form.{Form}
@@ -16,7 +16,7 @@ pub record GathersEntries {W : Type 0} (contents : W → Option (List ℕ)) (tex
   pub before : List Entry
   pub others : List Entry
   pub whole : entries ≡ before ++ others
-  pub are_left : AreLeft tables others groups
+  pub are_left : EntriesLeft tables others groups
   pub gathered : Gathered contents pending left old new (flat_map text before)
 
 -- of these groups some were gathered, and the others are left
@@ -25,7 +25,7 @@ pub record GathersGroups {W : Type 0} (contents : W → Option (List ℕ)) (text
   pub before : List GroupData
   pub others : List GroupData
   pub whole : groups ≡ before ++ others
-  pub are_left : AreLeft tables [] others
+  pub are_left : EntriesLeft tables [] others
   pub gathered : Gathered contents pending left old new (flat_map text before)
 
 -- the text with one more

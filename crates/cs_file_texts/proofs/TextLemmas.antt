@@ -10,7 +10,7 @@ use Rattle.cs_wire_entries.specs.declared.entry.Change.{Change}
 use Rattle.cs_wire_entries.specs.declared.entry.Change.TheVariants.{Insert, Delete, Update}
 use Rattle.cs_wire.specs.Entry.{before_image}
 use Rattle.cs_wire.specs.Items.{new_record}
-use Rattle.cs_file_texts.specs.Texts.{literal, separated, field_text, flag_text, entry_text, statement, assignment, assignments, by_place, conditions}
+use Rattle.cs_file_texts.specs.Texts.{literal, separated, field_text, flag_text, entry_text, statement, assignment, assignments, by_index, conditions}
 use Rattle.cs_file_texts.specs.Pieces.{change_text, record_text, action_text, where_text}
 
 -- a byte is twice there or once, whatever follows
@@ -77,4 +77,4 @@ statement_parts name (Insert row) =
     ap (λ texts. codes "INSERT INTO " ++ quoted 34 name ++ codes " VALUES(" ++ separated (codes ", ") texts ++ codes ");\n") (sym (row_texts row)) ∙ simp append_assoc
 statement_parts name (Delete row) = regroup (codes "DELETE FROM " ++ quoted 34 name) (codes " WHERE ") (conditions (map Defined row)) (codes ";\n")
 statement_parts name (Update old new) =
-    regroup (codes "UPDATE " ++ quoted 34 name ++ codes " SET " ++ assignments old (by_place assignment 0 new)) (codes " WHERE ") (conditions old) (codes ";\n")
+    regroup (codes "UPDATE " ++ quoted 34 name ++ codes " SET " ++ assignments old (by_index assignment 0 new)) (codes " WHERE ") (conditions old) (codes ";\n")

@@ -12,7 +12,7 @@ use Rattle.cs_file_texts.specs.declared.texts.piece.Piece.TheVariants as line
 use Rattle.cs_file_texts.specs.declared.texts.sql.Terms.{Terms}
 use Rattle.cs_file_texts.specs.declared.texts.sql.Terms.TheVariants.{Assignments, Conditions}
 use Rattle.cs_value.specs.Quoting.{quoted}
-use Rattle.cs_file_texts.specs.Texts.{separated, field_text, fields_text, listed_text, assignment, condition, by_place}
+use Rattle.cs_file_texts.specs.Texts.{separated, field_text, fields_text, listed_text, assignment, condition, by_index}
 use Rattle.cs_file_texts.specs.Texts.{conditions, assignments}
 
 -- what a piece of a line is printed as
@@ -65,7 +65,7 @@ between_of Conditions = codes " AND "
 
 -- what is said of the columns with a defined field
 abbrev pub terms_text : Terms → List OwnedField → List ℕ
-terms_text terms fields = separated (between_of terms) (by_place (term_text terms) 0 fields)
+terms_text terms fields = separated (between_of terms) (by_index (term_text terms) 0 fields)
 
 -- what is done to the table of this name, by the records before and after the change
 abbrev pub action_text : List ℕ → Option (List OwnedField) → Option (List OwnedField) → List ℕ
@@ -74,7 +74,7 @@ action_text name None (Some new) =
     codes "INSERT INTO " ++ quoted 34 name ++ codes " VALUES(" ++ separated (codes ", ") (map field_text new) ++ codes ")"
 action_text name (Some old) None = codes "DELETE FROM " ++ quoted 34 name
 action_text name (Some old) (Some new) =
-    codes "UPDATE " ++ quoted 34 name ++ codes " SET " ++ assignments old (by_place assignment 0 new)
+    codes "UPDATE " ++ quoted 34 name ++ codes " SET " ++ assignments old (by_index assignment 0 new)
 
 -- the row that is changed, by the record before the change
 abbrev pub where_text : Option (List OwnedField) → List ℕ

@@ -66,31 +66,31 @@ dump_of changeset = flat_map group_text changeset
 
 -- ---- the same as SQL
 
--- the name of the column at this place, from 0
+-- the name of the column at this index, from 0
 abbrev pub column_name : ℕ → List ℕ
-column_name place = codes "c" ++ decimal (place + 1)
+column_name index = codes "c" ++ decimal (index + 1)
 
 unfoldable pub assignment : ℕ → OwnedValue → List ℕ
-assignment place value = column_name place ++ codes "=" ++ literal value
+assignment index value = column_name index ++ codes "=" ++ literal value
 
 unfoldable pub condition : ℕ → OwnedValue → List ℕ
-condition place (Int z) = assignment place (Int z)
-condition place (Text t) = assignment place (Text t)
-condition place (Blob b) = assignment place (Blob b)
-condition place Null = column_name place ++ codes " IS NULL"
+condition index (Int z) = assignment index (Int z)
+condition index (Text t) = assignment index (Text t)
+condition index (Blob b) = assignment index (Blob b)
+condition index Null = column_name index ++ codes " IS NULL"
 
--- what is made of each defined field with its place, from a first place on
-abbrev pub by_place : (ℕ → OwnedValue → List ℕ) → ℕ → List OwnedField → List (List ℕ)
-by_place text place [] = []
-by_place text place (Undefined ∷ fields) = by_place text (place + 1) fields
-by_place text place (Defined v ∷ fields) = text place v ∷ by_place text (place + 1) fields
+-- what is made of each defined field with its index, from a first index on
+abbrev pub by_index : (ℕ → OwnedValue → List ℕ) → ℕ → List OwnedField → List (List ℕ)
+by_index text index [] = []
+by_index text index (Undefined ∷ fields) = by_index text (index + 1) fields
+by_index text index (Defined v ∷ fields) = text index v ∷ by_index text (index + 1) fields
 
 abbrev pub conditions : List OwnedField → List ℕ
-conditions fields = separated (codes " AND ") (by_place condition 0 fields)
+conditions fields = separated (codes " AND ") (by_index condition 0 fields)
 
 -- the modified columns; where there is none, those of the key with the values that they have
 abbrev pub assignments : List OwnedField → List (List ℕ) → List ℕ
-assignments old [] = separated (codes ", ") (by_place assignment 0 old)
+assignments old [] = separated (codes ", ") (by_index assignment 0 old)
 assignments old (one ∷ others) = separated (codes ", ") (one ∷ others)
 
 unfoldable pub statement : List ℕ → Change → List ℕ
@@ -100,7 +100,7 @@ statement name (Insert row) =
 statement name (Delete row) =
     codes "DELETE FROM " ++ quoted 34 name ++ codes " WHERE " ++ conditions (map Defined row) ++ codes ";\n"
 statement name (Update old new) =
-    codes "UPDATE " ++ quoted 34 name ++ codes " SET " ++ assignments old (by_place assignment 0 new)
+    codes "UPDATE " ++ quoted 34 name ++ codes " SET " ++ assignments old (by_index assignment 0 new)
     ++ codes " WHERE " ++ conditions old ++ codes ";\n"
 
 -- a statement for each entry of a table

@@ -1,7 +1,7 @@
 //! The readable texts of changesets.
 ghost use Rattle.std.specs.Prelude.{[], List};
 ghost use Rattle.cs_wire.specs.Changeset.{GroupData};
-ghost use Rattle.cs_file_tables.specs.Tables.{AreLeft};
+ghost use Rattle.cs_file_tables.specs.Tables.{EntriesLeft};
 ghost use Rattle.cs_file_texts.specs.Calls.{Writes};
 ghost use Rattle.cs_file_texts.specs.Texts.{dump_of, sql_of};
 ghost use Rattle.cs_file_texts.specs.Forms.{form_text};
@@ -72,7 +72,7 @@ pub fn write_tables<W: Write>(
     tables: Tables<'_>,
     out: &mut Told<W>,
 ) -> Result<(), OutputFault>
-    ensures { (groups : List GroupData) → AreLeft tables.entry [] groups
+    ensures { (groups : List GroupData) → EntriesLeft tables.entry [] groups
         → Writes W.contents result out.old out.new (form_text form groups) }
 {
     let mut gather = Gather::new();

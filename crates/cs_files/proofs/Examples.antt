@@ -18,7 +18,7 @@ use Rattle.cs_wire.proofs.Examples.{flags, header_is, one_is_changeset, one_chan
 use Rattle.cs_wire.proofs.Examples.{y_is, insert_file_is_accepted}
 use Rattle.cs_wire.specs.Inverse.{IsInverseGroup}
 use Rattle.cs_group.specs.Inverse.{IsInverse}
-use Rattle.cs_group.specs.Joining.{IsJoined, AreJoinable, AgreesWith, FirstClash, key_places}
+use Rattle.cs_group.specs.Joining.{IsJoined, AreJoinable, AgreesWith, FirstClash, key_marks}
 use Rattle.cs_files.specs.Files.{Inverts, Joins, JoinFails}
 use Rattle.cs_files.specs.declared.fault.FileFault.TheVariants.{First, Second, Schema as Tables}
 
@@ -279,7 +279,7 @@ wide_is_changeset =
 -- its table has other columns than that of the insertion of (1, 'x')
 wide_disagrees : AgreesWith (one_change (Insert row)) (get_or wide 0 (group [])) → ⊥
 wide_disagrees agrees =
-    let same : key_places flags ≡ key_places wider.flags = agrees 0 (group []) (omega arith) refl in
+    let same : key_marks flags ≡ key_marks wider.flags = agrees 0 (group []) (omega arith) refl in
     absurd cc
 
 -- and is the first one that has

@@ -8,7 +8,7 @@ use Rattle.cs_wire.specs.Entry.{IsEntry, entry_bytes}
 use Rattle.cs_wire.specs.Changeset.{HeaderData, GroupData, IsFileOf, IsGroup, header_bytes, entries_bytes, group_bytes, file_bytes}
 use Rattle.cs_wire.specs.Inverse.{IsInverseEntry}
 use Rattle.cs_wire.specs.Items.{FlaggedEntry}
-use Rattle.cs_file_tables.specs.Tables.{TablesData, AreLeft, IsNextEntry, IsNextTable}
+use Rattle.cs_file_tables.specs.Tables.{TablesData, EntriesLeft, IsNextEntry, IsNextTable}
 use Rattle.cs_file_tables.specs.Visits.{IsVisited, group_text}
 use Rattle.cs_wire.specs.Views.{inverse_entry}
 use Rattle.cs_wire.specs.declared.header.HeaderRef.{HeaderRef}
@@ -36,7 +36,7 @@ module _ (flags out written grown : List ℕ) (now next : TablesData) (entries :
 -- one more is undone
 module _ (out written opened grown : List ℕ) (now : TablesData) (groups : List GroupData) (so : WritesTables (λ g. group_bytes (inverse_group g)) out written now groups) where
   pub inverted_table : (header : HeaderRef) (after next : TablesData) (is : IsNextTable so.passed.others header after) → opened ≡ written ++ header_bytes (header_of header)
-      → grown ≡ opened ++ entries_bytes (map (inverse_entry after.flags) is.group.entries) → AreLeft next [] is.others → WritesTables (λ g. group_bytes (inverse_group g)) out grown next groups
+      → grown ≡ opened ++ entries_bytes (map (inverse_entry after.flags) is.group.entries) → EntriesLeft next [] is.others → WritesTables (λ g. group_bytes (inverse_group g)) out grown next groups
   unfolding group_bytes
   inverted_table header after next is opened_is grown_is left =
       let h = is.group.header in

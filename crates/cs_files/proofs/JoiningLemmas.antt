@@ -14,14 +14,14 @@ use Rattle.cs_wire_entries.specs.declared.entry.Entry.{Entry}
 use Rattle.cs_wire.specs.Entry.{entry_bytes, key_of}
 use Rattle.cs_wire.specs.Changeset.{HeaderData, GroupData, IsAccepted, IsChangeset, IsFileOf, IsGroup, entries_bytes, file_bytes, group_bytes, header_bytes}
 use Rattle.cs_file_tables.specs.Named.{NamedData, IsTableOf, AreListed, header_at, tables_at, no_table}
-use Rattle.cs_file_tables.specs.Tables.{TablesData, AreLeft}
-use Rattle.cs_wire.specs.Views.{IsPlaceOf}
+use Rattle.cs_file_tables.specs.Tables.{TablesData, EntriesLeft}
+use Rattle.cs_wire.specs.Views.{IsIndexWhere}
 use Rattle.cs_wire_entries.proofs.EntryLemmas.{entry_bytes_some}
 use Rattle.cs_file_tables.proofs.NamedLemmas.{table_at, tables_length, no_group_named, group_named}
-use Rattle.cs_group.specs.Joining.{AgreesWith, AreJoinable, IsJoined, is_new, if_new, joined, joined_group, key_places, some_group, table_name, with_text}
+use Rattle.cs_group.specs.Joining.{AgreesWith, AreJoinable, IsJoined, is_new, if_new, joined, joined_group, key_marks, some_group, table_name, with_text}
 use Rattle.cs_group.proofs.JoinLemmas.{agree_found, agrees_found, found_agrees, joined_is_changeset}
 use Rattle.cs_group.proofs.JoinLengths.{join_length}
-use Rattle.cs_group.proofs.TextLemmas.{with_text-none, with_text-place, with_text-found}
+use Rattle.cs_group.proofs.TextLemmas.{with_text-none, with_text-index, with_text-found}
 use Rattle.cs_wire.specs.ReadFaults.{ReadFails}
 use Rattle.cs_files.specs.declared.fault.FileFault.{FileFault}
 use Rattle.cs_files.specs.declared.fault.FileFault.TheVariants.{First, Second, Schema}
@@ -62,10 +62,10 @@ module _ {X : Type 0} (bytes_of : X → List ℕ) where
 abbrev pub no_entry : Entry
 no_entry = record { indirect = false; change = Insert [] }
 
-pub unmet_bytes : (flags : List ℕ) (met : List Bool) (firsts seconds : List Entry) (place : ℕ) (entry : Entry) (marked : Bool) → AreMet (λ e. key_of flags e.change) met firsts seconds → place < length seconds → entry ≡ get_or seconds place entry
-    → marked ≡ get_or met place false → (cond marked [] (entry_bytes entry)) ≡ some_bytes entry_bytes (if_new (λ e. key_of flags e.change) firsts entry)
-unmet_bytes flags met firsts seconds place entry marked so lt is marked_is =
-    by marked ∙ ap (some_bytes entry_bytes) (unmet_is (λ (e : Entry). key_of flags e.change) met firsts seconds so place entry lt is marked marked_is)
+pub unmet_bytes : (flags : List ℕ) (met : List Bool) (firsts seconds : List Entry) (index : ℕ) (entry : Entry) (marked : Bool) → AreMet (λ e. key_of flags e.change) met firsts seconds → index < length seconds → entry ≡ get_or seconds index entry
+    → marked ≡ get_or met index false → (cond marked [] (entry_bytes entry)) ≡ some_bytes entry_bytes (if_new (λ e. key_of flags e.change) firsts entry)
+unmet_bytes flags met firsts seconds index entry marked so lt is marked_is =
+    by marked ∙ ap (some_bytes entry_bytes) (unmet_is (λ (e : Entry). key_of flags e.change) met firsts seconds so index entry lt is marked marked_is)
   where
     by : (m : Bool) → cond m [] (entry_bytes entry) ≡ some_bytes entry_bytes (if m then None else Some entry)
     by true = refl
@@ -73,8 +73,8 @@ unmet_bytes flags met firsts seconds place entry marked so lt is marked_is =
 
 -- ---- a second entry that is found
 
-pub key_there : (own key : List ℕ) (seconds : List Entry) (place : ℕ) (seen : Entry) → IsPlaceOf (λ e. e ≡ seen) seconds place → key_of own seen.change ≡ key → IsPlaceOf (λ e. key_of own e.change ≡ key) seconds place
-key_there own key seconds place seen at is = record { within = at.within; holds = λ d. ap (λ (e : Entry). key_of own e.change) (at.holds d) ∙ is }
+pub key_there : (own key : List ℕ) (seconds : List Entry) (index : ℕ) (seen : Entry) → IsIndexWhere (λ e. e ≡ seen) seconds index → key_of own seen.change ≡ key → IsIndexWhere (λ e. key_of own e.change ≡ key) seconds index
+key_there own key seconds index seen at is = record { within = at.within; holds = λ d. ap (λ (e : Entry). key_of own e.change) (at.holds d) ∙ is }
 
 -- ---- a table of which entries are left
 
@@ -101,40 +101,40 @@ module _ (named : NamedData) (groups : List GroupData) (listed : AreListed named
   pub unlisted : All (λ t. t.header.name ≢ name) named.tables → with_text table_name groups name ≡ None
   unlisted none = with_text-none table_name groups name (no_group_named named groups listed name none)
 
-  module _ (place : ℕ) (at : IsPlaceOf (λ t. t.header.name ≡ name) named.tables place) where
+  module _ (index : ℕ) (at : IsIndexWhere (λ t. t.header.name ≡ name) named.tables index) where
     abbrev pub there : GroupData
-    there = get_or groups place no_group
+    there = get_or groups index no_group
 
     pub listed_there : Some there ≡ with_text table_name groups name
     listed_there =
-        let in_groups = group_named named groups listed name place at in
-        with_text-place table_name groups name place there is.once in_groups (get_or_default groups place no_group there in_groups.within)
+        let in_groups = group_named named groups listed name index at in
+        with_text-index table_name groups name index there is.once in_groups (get_or_default groups index no_group there in_groups.within)
 
-    pub table_there : IsTableOf named.file (get_or named.tables place no_table) there (drop (suc place) groups ++ [])
-    table_there = table_at named.file named.tables groups [] place no_table no_group listed at.within
+    pub table_there : IsTableOf named.file (get_or named.tables index no_table) there (drop (suc index) groups ++ [])
+    table_there = table_at named.file named.tables groups [] index no_table no_group listed at.within
 
-    pub flags_there : (header_at named place).flags ≡ there.header.flags
+    pub flags_there : (header_at named index).flags ≡ there.header.flags
     flags_there = ap (λ (h : HeaderData). h.flags) table_there.header
 
-    pub partner_there : IsPartner (Some (tables_at named place)) (with_text table_name groups name)
-    partner_there = rw (← listed_there) (flags_there, (drop (suc place) groups ++ []), table_there.are_left)
+    pub partner_there : IsPartner (Some (tables_at named index)) (with_text table_name groups name)
+    partner_there = rw (← listed_there) (flags_there, (drop (suc index) groups ++ []), table_there.are_left)
 
     -- whether it agrees with a group of this name
     module _ (group : GroupData) (of : name ≡ group.header.name) where
       found_there : Some there ≡ with_text table_name groups group.header.name
       found_there = listed_there ∙ ap (with_text table_name groups) of
 
-      pub agrees_there : key_places (header_at named place).flags ≡ key_places group.header.flags → AgreesWith groups group
-      agrees_there same = agrees_found groups group there is.once found_there (ap key_places (sym flags_there) ∙ same)
+      pub agrees_there : key_marks (header_at named index).flags ≡ key_marks group.header.flags → AgreesWith groups group
+      agrees_there same = agrees_found groups group there is.once found_there (ap key_marks (sym flags_there) ∙ same)
 
-      pub there_agrees : AgreesWith groups group → key_places (header_at named place).flags ≡ key_places group.header.flags
-      there_agrees all = ap key_places flags_there ∙ found_agrees groups group there is.once found_there all
+      pub there_agrees : AgreesWith groups group → key_marks (header_at named index).flags ≡ key_marks group.header.flags
+      there_agrees all = ap key_marks flags_there ∙ found_agrees groups group there is.once found_there all
 
     -- what is asked of the group of this name
-    pub asked_there : (flags : List ℕ) → IfSome (with_text table_name groups name) (λ g. key_places g.header.flags ≡ key_places flags) → key_places (header_at named place).flags ≡ key_places flags
+    pub asked_there : (flags : List ℕ) → IfSome (with_text table_name groups name) (λ g. key_marks g.header.flags ≡ key_marks flags) → key_marks (header_at named index).flags ≡ key_marks flags
     asked_there flags asked =
-        let so : key_places there.header.flags ≡ key_places flags = rw (← listed_there) at asked in
-        ap key_places flags_there ∙ so
+        let so : key_marks there.header.flags ≡ key_marks flags = rw (← listed_there) at asked in
+        ap key_marks flags_there ∙ so
 
 -- ---- a group of the first file, and the one of its name in the second
 
@@ -149,7 +149,7 @@ pub record Partner (tables : TablesData) (found : Option GroupData) : Type 0 whe
   pub behind : List GroupData
   pub is : found ≡ Some other
   pub flags : tables.flags ≡ other.header.flags
-  pub are_left : AreLeft tables other.entries behind
+  pub are_left : EntriesLeft tables other.entries behind
 
 pub partner_is : (tables : TablesData) (found : Option GroupData) → IsPartner (Some tables) found → Partner tables found
 partner_is tables None is = absurd is
@@ -179,30 +179,30 @@ module _ (groups : List GroupData) (group : GroupData) where
 
 -- ---- the tables of a list, one after another
 
--- the group whose table stands at a place
-module _ (named : NamedData) (groups : List GroupData) (listed : AreListed named groups) (place : ℕ) (lt : place < length named.tables) where
+-- the group whose table stands at an index
+module _ (named : NamedData) (groups : List GroupData) (listed : AreListed named groups) (index : ℕ) (lt : index < length named.tables) where
   abbrev pub group_at : GroupData
-  group_at = get_or groups place no_group
+  group_at = get_or groups index no_group
 
-  pub group_within : place < length groups
+  pub group_within : index < length groups
   group_within = omega (arith, lt, tables_length named.file named.tables groups [] listed)
 
-  pub group_at_is : group_at ≡ get_or groups place group_at
-  group_at_is = get_or_default groups place no_group group_at group_within
+  pub group_at_is : group_at ≡ get_or groups index group_at
+  group_at_is = get_or_default groups index no_group group_at group_within
 
-  pub table_of_group : IsTableOf named.file (get_or named.tables place no_table) group_at (drop (suc place) groups ++ [])
-  table_of_group = table_at named.file named.tables groups [] place no_table no_group listed lt
+  pub table_of_group : IsTableOf named.file (get_or named.tables index no_table) group_at (drop (suc index) groups ++ [])
+  table_of_group = table_at named.file named.tables groups [] index no_table no_group listed lt
 
   -- under an equal header it is the same
-  pub group_under : (header : HeaderData) → header ≡ header_at named place → record { header = header; entries = group_at.entries } ≡ group_at
+  pub group_under : (header : HeaderData) → header ≡ header_at named index → record { header = header; entries = group_at.entries } ≡ group_at
   group_under header is = ap (λ (h : HeaderData). record { header = h; entries = group_at.entries }) (is ∙ table_of_group.header)
 
   -- what is asked of the group of its name among others
-  pub group_asked : (firsts : List GroupData) (header : HeaderData) → AreJoinable groups firsts → header ≡ header_at named place
-      → IfSome (with_text table_name firsts header.name) (λ h. key_places h.header.flags ≡ key_places header.flags)
+  pub group_asked : (firsts : List GroupData) (header : HeaderData) → AreJoinable groups firsts → header ≡ header_at named index
+      → IfSome (with_text table_name firsts header.name) (λ h. key_marks h.header.flags ≡ key_marks header.flags)
   group_asked firsts header joinable is =
-      subst (λ (h : HeaderData). IfSome (with_text table_name firsts h.name) (λ g. key_places g.header.flags ≡ key_places h.flags)) (sym (is ∙ table_of_group.header))
-      (agree_found groups firsts place group_at joinable group_within group_at_is)
+      subst (λ (h : HeaderData). IfSome (with_text table_name firsts h.name) (λ g. key_marks g.header.flags ≡ key_marks h.flags)) (sym (is ∙ table_of_group.header))
+      (agree_found groups firsts index group_at joinable group_within group_at_is)
 
 -- ---- both lists of a join
 

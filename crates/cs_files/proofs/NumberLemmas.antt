@@ -3,7 +3,7 @@ use Rattle.std.proofs.Common.{◌≡◌, ℕ, List, [], ◌++◌, length, sym, a
 use Rattle.cs_wire.specs.declared.header.HeaderRef.{HeaderRef}
 use Rattle.cs_wire.specs.Changeset.{HeaderData, GroupData, IsFileOf, header_bytes, entries_bytes, group_bytes, file_bytes}
 use Rattle.cs_wire.specs.Headers.{header_of}
-use Rattle.cs_file_tables.specs.Tables.{TablesData, AreLeft, IsNextTable}
+use Rattle.cs_file_tables.specs.Tables.{TablesData, EntriesLeft, IsNextTable}
 use Rattle.cs_group.specs.Numbering.{numbered, numbered_header, numbered_group}
 use Rattle.cs_group.proofs.NumberingLemmas.{IsChangeset-numbered, length_stays}
 use Rattle.cs_files.specs.Files.{Numbers}
@@ -12,7 +12,7 @@ use Rattle.cs_files.proofs.PassLemmas.{WritesTables, WritesTables-next}
 -- one more table is written
 module _ (out written opened grown : List ℕ) (now : TablesData) (groups : List GroupData) (so : WritesTables (λ g. group_bytes (numbered_group g)) out written now groups) where
   pub numbered_table : (header : HeaderRef) (after next : TablesData) (is : IsNextTable so.passed.others header after) → opened ≡ written ++ header_bytes (numbered_header (header_of header))
-      → grown ≡ opened ++ entries_bytes is.group.entries → AreLeft next [] is.others → WritesTables (λ g. group_bytes (numbered_group g)) out grown next groups
+      → grown ≡ opened ++ entries_bytes is.group.entries → EntriesLeft next [] is.others → WritesTables (λ g. group_bytes (numbered_group g)) out grown next groups
   unfolding group_bytes
   numbered_table header after next is opened_is grown_is left =
       let entries : List ℕ = entries_bytes is.group.entries in

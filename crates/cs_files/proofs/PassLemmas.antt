@@ -7,7 +7,7 @@ use Rattle.cs_wire_entries.specs.declared.entry.Entry.{Entry}
 use Rattle.cs_wire.specs.declared.header.HeaderRef.{HeaderRef}
 use Rattle.cs_wire.specs.Changeset.{GroupData}
 use Rattle.cs_wire.specs.Items.{FlaggedEntry}
-use Rattle.cs_file_tables.specs.Tables.{TablesData, AreLeft, IsNextEntry, IsNextTable}
+use Rattle.cs_file_tables.specs.Tables.{TablesData, EntriesLeft, IsNextEntry, IsNextTable}
 use Rattle.cs_file_tables.proofs.TablesLemmas.{PassedEntries, PassedEntries-next, PassedEntries-all}
 use Rattle.cs_file_tables.proofs.VisitLemmas.{more_written}
 
@@ -33,7 +33,7 @@ pub record WritesEntries (text : Entry → List ℕ) (flags out written : List �
   pub same : now.flags ≡ flags
   pub so_far : written ≡ out ++ flat_map text before
 
-abbrev pub WritesEntries-none : (text : Entry → List ℕ) (out : List ℕ) (now : TablesData) (entries : List Entry) (groups : List GroupData) → AreLeft now entries groups → WritesEntries text now.flags out out now entries groups
+abbrev pub WritesEntries-none : (text : Entry → List ℕ) (out : List ℕ) (now : TablesData) (entries : List Entry) (groups : List GroupData) → EntriesLeft now entries groups → WritesEntries text now.flags out out now entries groups
 WritesEntries-none text out now entries groups left = record {
   before = [];
   passed = record { others = entries; whole = refl; are_left = left };
@@ -61,13 +61,13 @@ pub record PassedTables (before : List GroupData) (now : TablesData) (groups : L
   pub entries : List Entry
   pub others : List GroupData
   pub whole : groups ≡ before ++ others
-  pub are_left : AreLeft now entries others
+  pub are_left : EntriesLeft now entries others
 
-pub PassedTables-none : (now : TablesData) (groups : List GroupData) → AreLeft now [] groups → PassedTables [] now groups
+pub PassedTables-none : (now : TablesData) (groups : List GroupData) → EntriesLeft now [] groups → PassedTables [] now groups
 PassedTables-none now groups left = record { entries = []; others = groups; whole = refl; are_left = left }
 
 module _ (before : List GroupData) (now : TablesData) (groups : List GroupData) (so : PassedTables before now groups) where
-  pub PassedTables-next : (header : HeaderRef) (opened next : TablesData) (is : IsNextTable so.others header opened) (entries : List Entry) → AreLeft next entries is.others → PassedTables (before ++ is.group ∷ []) next groups
+  pub PassedTables-next : (header : HeaderRef) (opened next : TablesData) (is : IsNextTable so.others header opened) (entries : List Entry) → EntriesLeft next entries is.others → PassedTables (before ++ is.group ∷ []) next groups
   PassedTables-next header opened next is entries left = record {
     entries = entries;
     others = is.others;
@@ -84,11 +84,11 @@ pub record WritesTables (text : GroupData → List ℕ) (out written : List ℕ)
   pub passed : PassedTables before now groups
   pub so_far : written ≡ out ++ flat_map text before
 
-pub WritesTables-none : (text : GroupData → List ℕ) (out : List ℕ) (now : TablesData) (groups : List GroupData) → AreLeft now [] groups → WritesTables text out out now groups
+pub WritesTables-none : (text : GroupData → List ℕ) (out : List ℕ) (now : TablesData) (groups : List GroupData) → EntriesLeft now [] groups → WritesTables text out out now groups
 WritesTables-none text out now groups left = record { before = []; passed = PassedTables-none now groups left; so_far = sym (append-nil out) }
 
 module _ (text : GroupData → List ℕ) (out written : List ℕ) (now : TablesData) (groups : List GroupData) (so : WritesTables text out written now groups) where
-  pub WritesTables-next : (grown : List ℕ) (header : HeaderRef) (opened next : TablesData) (is : IsNextTable so.passed.others header opened) (entries : List Entry) → AreLeft next entries is.others
+  pub WritesTables-next : (grown : List ℕ) (header : HeaderRef) (opened next : TablesData) (is : IsNextTable so.passed.others header opened) (entries : List Entry) → EntriesLeft next entries is.others
       → grown ≡ written ++ text is.group → WritesTables text out grown next groups
   WritesTables-next grown header opened next is entries left grown_is = record {
     before = so.before ++ is.group ∷ [];

@@ -7,7 +7,7 @@ use Rattle.cs_wire_entries.specs.declared.entry.Entry.{Entry}
 use Rattle.cs_wire.specs.declared.header.HeaderRef.{HeaderRef}
 use Rattle.cs_wire.specs.Changeset.{HeaderData, GroupData, IsChangeset, IsFileOf, IsGroup, entries_bytes, file_bytes, group_bytes, header_bytes}
 use Rattle.cs_wire.specs.Headers.{header_of}
-use Rattle.cs_file_tables.specs.Tables.{TablesData, AreLeft, IsNextTable}
+use Rattle.cs_file_tables.specs.Tables.{TablesData, EntriesLeft, IsNextTable}
 use Rattle.cs_files.proofs.PassLemmas.{WritesTables, WritesTables-next}
 use Rattle.cs_files.specs.Selecting.{Selects, is_among, selected}
 
@@ -56,7 +56,7 @@ file_selected names file out groups is written = (
 
 -- one more table is passed, and written if it is named
 module _ (names out written grown : List ℕ) (now : TablesData) (groups : List GroupData) (so : WritesTables (group_text names) out written now groups) where
-  pub table_selected : (header : HeaderRef) (opened next : TablesData) (is : IsNextTable so.passed.others header opened) (entries : List Entry) → AreLeft next entries is.others
+  pub table_selected : (header : HeaderRef) (opened next : TablesData) (is : IsNextTable so.passed.others header opened) (entries : List Entry) → EntriesLeft next entries is.others
       → grown ≡ written ++ cond (is_among names header.name.now) (header_bytes (header_of header) ++ entries_bytes is.group.entries) [] → WritesTables (group_text names) out grown next groups
   unfolding group_bytes
   table_selected header opened next is entries left grown_is =

@@ -2,8 +2,8 @@
 use Rattle.std.specs.Prelude.{◌≡◌, ℕ, ◌≤◌, List, [], ◌∷◌, ◌++◌, length, take, drop}
 use Rattle.cs_value.specs.Refusals.{Refuses}
 use Rattle.cs_wire.specs.Changeset.{IsAccepted}
-use Rattle.cs_files.specs.declared.chaining.ChainFault.{ChainFault}
-use Rattle.cs_files.specs.declared.chaining.ChainFault.TheVariants.{File, Lengths}
+use Rattle.cs_files.specs.declared.chaining.ChainError.{ChainError}
+use Rattle.cs_files.specs.declared.chaining.ChainError.TheVariants.{File, Lengths}
 use Rattle.cs_files.specs.declared.fault.FileFault.{FileFault}
 use Rattle.cs_files.specs.Files.{FirstFails, JoinFails, Joins}
 
@@ -44,6 +44,6 @@ pub record ChainFails (files : List (List ℕ)) (index : ℕ) (fault : FileFault
   pub fails : WhyNot before joined file fault
 
 -- the file at an index is at fault, for which Why holds; nothing is said if memory ran out, or of the lengths
-abbrev pub IfFile : (ℕ → FileFault → Type 0) → ChainFault → Type 0
+abbrev pub IfFile : (ℕ → FileFault → Type 0) → ChainError → Type 0
 IfFile Why Lengths = Unit {0}
 IfFile Why (File index error) = Refuses (Why index) error

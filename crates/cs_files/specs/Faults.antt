@@ -6,8 +6,8 @@ use Rattle.cs_value.specs.declared.refusal.OrNoMemory.{OrNoMemory}
 use Rattle.cs_value.specs.declared.refusal.OrNoMemory.TheVariants.{Fault, NoMemory}
 use Rattle.cs_wire_entries.specs.declared.fault.ReadFault.{ReadFault}
 use Rattle.cs_wire.specs.ReadFaults as read
-use Rattle.cs_files.specs.declared.fault.PrintFault.{PrintFault}
-use Rattle.cs_files.specs.declared.fault.PrintFault.TheVariants as print
+use Rattle.cs_files.specs.declared.fault.PrintError.{PrintError}
+use Rattle.cs_files.specs.declared.fault.PrintError.TheVariants as print
 use Rattle.cs_files.specs.declared.fault.FileFault.{FileFault}
 use Rattle.cs_files.specs.declared.fault.FileFault.TheVariants.{First, Second, Schema}
 
@@ -36,19 +36,19 @@ of_second (Fault f) = Fault (Second f)
 of_second NoMemory = NoMemory
 
 -- of a file that is not printed
-abbrev pub print_code_of : PrintFault → ℕ
+abbrev pub print_code_of : PrintError → ℕ
 print_code_of (print.Read error) = of_refusal (λ f. read.code_of f.kind) 60 error
 print_code_of (print.Output fault) = 72
 
-abbrev pub print_class_of : PrintFault → ℕ
+abbrev pub print_class_of : PrintError → ℕ
 print_class_of (print.Read error) = of_refusal (λ f. 11) 7 error
 print_class_of (print.Output fault) = 10
 
-abbrev pub print_name_of : PrintFault → List ℕ
+abbrev pub print_name_of : PrintError → List ℕ
 print_name_of (print.Read error) = of_refusal (λ f. read.name_of f.kind) (codes "NoMemory") error
 print_name_of (print.Output fault) = codes "OutputFault"
 
 -- why the text of the only file is not made in memory
-abbrev pub of_print : PrintFault → OrNoMemory FileFault
+abbrev pub of_print : PrintError → OrNoMemory FileFault
 of_print (print.Read error) = of_first error
 of_print (print.Output fault) = NoMemory

@@ -4,20 +4,20 @@ use Rattle.std.specs.Io.KnownBytes.{Appends}
 use Rattle.cs_value.specs.declared.refusal.OrNoMemory.{OrNoMemory}
 use Rattle.cs_wire_entries.specs.declared.fault.ReadFault.{ReadFault}
 use Rattle.cs_wire.specs.Changeset.{GroupData}
-use Rattle.cs_files.specs.declared.fault.PrintFault.{PrintFault}
-use Rattle.cs_files.specs.declared.fault.PrintFault.TheVariants.{Read, Output}
+use Rattle.cs_files.specs.declared.fault.PrintError.{PrintError}
+use Rattle.cs_files.specs.declared.fault.PrintError.TheVariants.{Read, Output}
 use Rattle.cs_file_texts.specs.declared.told.Told.{Told}
 use Rattle.cs_file_texts.specs.Told.{known}
 use Rattle.cs_file_texts.specs.Calls.{AppendsFront}
 use Rattle.cs_files.specs.Files.{Prints}
 
 -- this holds of why the file was not read, where it was not
-abbrev pub IfUnread : (OrNoMemory ReadFault → Type 0) → PrintFault → Type 0
+abbrev pub IfUnread : (OrNoMemory ReadFault → Type 0) → PrintError → Type 0
 IfUnread Why (Read error) = Why error
 IfUnread Why (Output fault) = Unit {0}
 
 -- this holds where the file was read, and its text was not written to its end
-abbrev pub IfUnwritten : Type 0 → PrintFault → Type 0
+abbrev pub IfUnwritten : Type 0 → PrintError → Type 0
 IfUnwritten Left (Read error) = Unit {0}
 IfUnwritten Left (Output fault) = Left
 

@@ -4,7 +4,7 @@ ghost use Rattle.cs_value.specs.Refusals.{Refuses};
 ghost use Rattle.cs_wire.specs.Changeset.{IsAccepted};
 ghost use Rattle.cs_files.specs.Files.{FirstFails};
 ghost use Rattle.cs_files.specs.Chaining.{AreLengths, ChainFails, Chains, IfFile, WhyNot, files_in};
-ghost use Rattle.cs_files.specs.declared.chaining.ChainFault.TheVariants.{Lengths as NoLengths};
+ghost use Rattle.cs_files.specs.declared.chaining.ChainError.TheVariants.{Lengths as NoLengths};
 
 use crate::fault::{ToolFault, first_fault};
 use crate::files::concat_bytes;
@@ -14,7 +14,7 @@ use thiserror::Error;
 
 /// Why files are not concatenated.
 #[derive(Debug, Drop, Error)]
-pub enum ChainFault {
+pub enum ChainError {
     /// The lengths do not add up to the bytes.
     #[error("the lengths of the files do not add up to the bytes")]
     Lengths,
@@ -38,7 +38,7 @@ pub fn concat_all_bytes(
     alloc: Global,
     files: &[u8],
     lengths: &[usize],
-) -> Result<Vec<u8>, ChainFault>
+) -> Result<Vec<u8>, ChainError>
     ensures chained { IfOk result (λ out. Chains (files_in files.now lengths.now) out.items) }
     ensures length { IfOk result (λ out. length out.items ≤ length files.now) }
     ensures refused { IfErr result (IfFile (ChainFails (files_in files.now lengths.now))) }
@@ -50,18 +50,18 @@ pub fn concat_all_bytes(
     for (index, length) in lengths.iter().enumerate() {
         if *length > rest.len() {
             drop(joined);
-            return Err(ChainFault::Lengths);
+            return Err(ChainError::Lengths);
         }
         let (file, others) = rest.split_at(*length);
         joined = match add_file(alloc, index, joined, file) {
             Ok(added) => added,
-            Err(error) => return Err(ChainFault::File { index, error }),
+            Err(error) => return Err(ChainError::File { index, error }),
         };
         rest = others;
     }
     if !rest.is_empty() {
         drop(joined);
-        return Err(ChainFault::Lengths);
+        return Err(ChainError::Lengths);
     }
     Ok(joined)
 }

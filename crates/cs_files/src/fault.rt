@@ -2,7 +2,7 @@
 ghost use Rattle.std.specs.Prelude.{◌≡◌};
 ghost use Rattle.cs_files.specs.Faults.{code_of, class_of, name_of, of_first, of_second};
 ghost use Rattle.cs_files.specs.Faults.{print_code_of, print_class_of, print_name_of, of_print};
-ghost use Rattle.cs_files.specs.declared.fault.PrintFault.TheVariants as print;
+ghost use Rattle.cs_files.specs.declared.fault.PrintError.TheVariants as print;
 
 use cs_file_texts::OutputFault;
 use cs_group::SchemaFault;
@@ -12,7 +12,7 @@ use thiserror::Error;
 
 /// Why a file is not printed.
 #[derive(Debug, PartialEq, Eq, Drop, Error)]
-pub enum PrintFault {
+pub enum PrintError {
     /// The file is not a changeset, or memory ran out. Nothing is written.
     #[error("{0}")]
     Read(ReadError),
@@ -21,7 +21,7 @@ pub enum PrintFault {
     Output(OutputFault),
 }
 
-impl Fault for PrintFault {
+impl Fault for PrintError {
     ghost code_of = { print_code_of };
 
     ghost class_of = { print_class_of };
@@ -30,39 +30,39 @@ impl Fault for PrintFault {
 
     fn code(&self) -> u8 {
         match self {
-            PrintFault::Read(error) => error.code(),
-            PrintFault::Output(fault) => fault.code(),
+            PrintError::Read(error) => error.code(),
+            PrintError::Output(fault) => fault.code(),
         }
     }
 
     fn class(&self) -> u8 {
         match self {
-            PrintFault::Read(error) => error.class(),
-            PrintFault::Output(fault) => fault.class(),
+            PrintError::Read(error) => error.class(),
+            PrintError::Output(fault) => fault.class(),
         }
     }
 
     fn name(&self) -> &'static str {
         match self {
-            PrintFault::Read(error) => error.name(),
-            PrintFault::Output(fault) => fault.name(),
+            PrintError::Read(error) => error.name(),
+            PrintError::Output(fault) => fault.name(),
         }
     }
 }
 
-impl From<ReadError> for PrintFault {
+impl From<ReadError> for PrintError {
     ghost from_gives = { λ error fault. fault ≡ print.Read error };
 
-    fn from(error: ReadError) -> PrintFault {
-        PrintFault::Read(error)
+    fn from(error: ReadError) -> PrintError {
+        PrintError::Read(error)
     }
 }
 
-impl From<OutputFault> for PrintFault {
+impl From<OutputFault> for PrintError {
     ghost from_gives = { λ output fault. fault ≡ print.Output output };
 
-    fn from(fault: OutputFault) -> PrintFault {
-        PrintFault::Output(fault)
+    fn from(fault: OutputFault) -> PrintError {
+        PrintError::Output(fault)
     }
 }
 
@@ -123,12 +123,12 @@ pub fn first_fault(error: ReadError) -> ToolFault
 }
 
 /// Returns the error of a text that cannot be made in memory. A write fails there only if memory runs out.
-pub(crate) fn text_fault(fault: PrintFault) -> ToolFault
+pub(crate) fn text_fault(fault: PrintError) -> ToolFault
     ensures { result ≡ of_print fault }
 {
     match fault {
-        PrintFault::Read(error) => first_fault(error),
-        PrintFault::Output(OutputFault) => ToolFault::NoMemory,
+        PrintError::Read(error) => first_fault(error),
+        PrintError::Output(OutputFault) => ToolFault::NoMemory,
     }
 }
 

@@ -8,7 +8,7 @@ ghost use Rattle.cs_file_texts.specs.Texts.{dump_of, sql_of};
 ghost use Rattle.cs_file_texts.specs.Forms.{form_text};
 ghost use Rattle.cs_files.specs.Printing.{IfUnread, IfUnwritten, PrintsTo, PrintsFrontTo};
 
-use crate::fault::{PrintFault, ToolFault, first_fault, second_fault, text_fault};
+use crate::fault::{PrintError, ToolFault, first_fault, second_fault, text_fault};
 use crate::inverting::{Inverting, write_inverse};
 use crate::joining::join_tables;
 use crate::numbering::write_numbered;
@@ -91,7 +91,7 @@ pub fn concat_bytes(alloc: Global, first: &[u8], second: &[u8]) -> Result<Vec<u8
 /// - `Read` if the bytes are not the file of a changeset, with the fault's kind and byte offset, or if memory runs out.
 ///   Then nothing is written.
 /// - `Output` if a write fails or accepts no byte. Then a prefix of the text is written, and the flag of `out` is set.
-pub fn print_dump<W: Write>(alloc: Global, file: &[u8], out: &mut Told<W>) -> Result<(), PrintFault>
+pub fn print_dump<W: Write>(alloc: Global, file: &[u8], out: &mut Told<W>) -> Result<(), PrintError>
     ensures printed { OnOk result (PrintsTo W.contents dump_of file.now out.old out.new) }
     ensures refused { IfErr result (IfUnread (Refuses (λ f. ReadFails file.now f.kind f.place))) }
     ensures untouched { IfErr result (IfUnread (λ _. out.new ≡ out.old)) }
@@ -108,7 +108,7 @@ pub fn print_dump<W: Write>(alloc: Global, file: &[u8], out: &mut Told<W>) -> Re
 /// - `Read` if the bytes are not the file of a changeset, with the fault's kind and byte offset, or if memory runs out.
 ///   Then nothing is written.
 /// - `Output` if a write fails or accepts no byte. Then a prefix of the text is written, and the flag of `out` is set.
-pub fn print_sql<W: Write>(alloc: Global, file: &[u8], out: &mut Told<W>) -> Result<(), PrintFault>
+pub fn print_sql<W: Write>(alloc: Global, file: &[u8], out: &mut Told<W>) -> Result<(), PrintError>
     ensures printed { OnOk result (PrintsTo W.contents sql_of file.now out.old out.new) }
     ensures refused { IfErr result (IfUnread (Refuses (λ f. ReadFails file.now f.kind f.place))) }
     ensures untouched { IfErr result (IfUnread (λ _. out.new ≡ out.old)) }
@@ -124,7 +124,7 @@ fn print_file<W: Write>(
     file: &[u8],
     form: Form,
     out: &mut Told<W>,
-) -> Result<(), PrintFault>
+) -> Result<(), PrintError>
     ensures printed { OnOk result (PrintsTo W.contents (form_text form) file.now out.old out.new) }
     ensures refused { IfErr result (IfUnread (Refuses (λ f. ReadFails file.now f.kind f.place))) }
     ensures untouched { IfErr result (IfUnread (λ _. out.new ≡ out.old)) }

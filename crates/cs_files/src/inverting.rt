@@ -3,7 +3,7 @@ ghost use Rattle.std.specs.Prelude.{◌≡◌, ◌≤◌, ◌++◌, [], List, On
 ghost use Rattle.cs_wire_entries.specs.declared.entry.Entry.{Entry as EntryData};
 ghost use Rattle.cs_wire.specs.Changeset.{GroupData, entries_bytes, file_bytes, header_bytes};
 ghost use Rattle.cs_wire.specs.Entry.{entry_bytes};
-ghost use Rattle.cs_file_tables.specs.Tables.{AreLeft};
+ghost use Rattle.cs_file_tables.specs.Tables.{EntriesLeft};
 ghost use Rattle.cs_wire.specs.Views.{inverse_entry};
 ghost use Rattle.cs_group.specs.Inverse.{inverse_group};
 
@@ -35,7 +35,7 @@ impl Visit for Inverting {
 
 /// Appends the inverses of the remaining tables.
 pub(crate) fn write_inverse(out: &mut Vec<u8>, tables: Tables<'_>) -> Result<(), NoMemory>
-    ensures { (groups : List GroupData) → AreLeft tables.entry [] groups
+    ensures { (groups : List GroupData) → EntriesLeft tables.entry [] groups
         → OnOk result (out.new.items ≡ out.old.items ++ file_bytes (map inverse_group groups)) }
 {
     let mut left = tables;
@@ -48,10 +48,10 @@ pub(crate) fn write_inverse(out: &mut Vec<u8>, tables: Tables<'_>) -> Result<(),
 
 /// Appends the inverses of the remaining entries of the open table.
 fn write_entries(out: &mut Vec<u8>, tables: &mut Tables<'_>) -> Result<(), NoMemory>
-    ensures written { (entries : List EntryData) (groups : List GroupData) → AreLeft tables.old entries groups
+    ensures written { (entries : List EntryData) (groups : List GroupData) → EntriesLeft tables.old entries groups
         → OnOk result (out.new.items ≡ out.old.items ++ entries_bytes (map (inverse_entry tables.old.flags) entries)) }
-    ensures left { (entries : List EntryData) (groups : List GroupData) → AreLeft tables.old entries groups
-        → OnOk result (AreLeft tables.new [] groups) }
+    ensures left { (entries : List EntryData) (groups : List GroupData) → EntriesLeft tables.old entries groups
+        → OnOk result (EntriesLeft tables.new [] groups) }
     ensures ahead { tables.old.place ≤ tables.new.place }
     ensures file { tables.new.file ≡ tables.old.file }
 {

@@ -24,11 +24,11 @@ mod joining;
 mod numbering;
 mod selecting;
 
-pub use chaining::{ChainFault, concat_all_bytes};
+pub use chaining::{ChainError, concat_all_bytes};
 pub use cs_file_texts::{
     Gather, OutputFault, Piece, Told, add_pieces, dump_text, sql_text, write_whole,
 };
-pub use fault::{FileFault, PrintFault, ToolFault, first_fault};
+pub use fault::{FileFault, PrintError, ToolFault, first_fault};
 pub use files::{
     concat_bytes, dump_file, invert_bytes, number_keys_bytes, print_dump, print_sql, sql_file,
 };

@@ -2,7 +2,7 @@
 ghost use Rattle.std.specs.Prelude.{◌≡◌, ◌++◌, [], List, OnOk};
 ghost use Rattle.cs_wire.specs.Changeset.{GroupData, IsHeader, file_bytes, header_bytes};
 ghost use Rattle.cs_wire.specs.Headers.{header_of};
-ghost use Rattle.cs_file_tables.specs.Tables.{AreLeft};
+ghost use Rattle.cs_file_tables.specs.Tables.{EntriesLeft};
 ghost use Rattle.cs_group.specs.Numbering.{numbered, numbered_header};
 
 use crate::joining::tables::write_entries;
@@ -18,7 +18,7 @@ pub(crate) fn write_numbered(
     out: &mut Vec<u8>,
     tables: Tables<'_>,
 ) -> Result<(), NoMemory>
-    ensures { (groups : List GroupData) → AreLeft tables.entry [] groups
+    ensures { (groups : List GroupData) → EntriesLeft tables.entry [] groups
         → OnOk result (out.new.items ≡ out.old.items ++ file_bytes (numbered groups)) }
 {
     let mut left = tables;

@@ -5,7 +5,7 @@ ghost use Rattle.cs_wire_entries.specs.declared.entry.Entry.{Entry as EntryData}
 ghost use Rattle.cs_wire.specs.Changeset.{GroupData, IsHeader, entries_bytes, file_bytes, header_bytes};
 ghost use Rattle.cs_wire.specs.Headers.{header_of};
 ghost use Rattle.cs_wire.specs.ReadFaults.{ReadFails};
-ghost use Rattle.cs_file_tables.specs.Tables.{AreLeft};
+ghost use Rattle.cs_file_tables.specs.Tables.{EntriesLeft};
 ghost use Rattle.cs_files.specs.Selecting.{Selects, is_among as is_among_in, selected};
 
 use cs_file_tables::Tables;
@@ -33,7 +33,7 @@ pub fn select_bytes(alloc: Global, file: &[u8], names: &[u8]) -> Result<Vec<u8>,
 
 /// Appends the remaining tables that are named.
 fn write_selected(out: &mut Vec<u8>, tables: Tables<'_>, names: &[u8]) -> Result<(), NoMemory>
-    ensures { (groups : List GroupData) → AreLeft tables.entry [] groups
+    ensures { (groups : List GroupData) → EntriesLeft tables.entry [] groups
         → OnOk result (out.new.items ≡ out.old.items ++ file_bytes (selected names.now groups)) }
 {
     let mut left = tables;
@@ -51,11 +51,11 @@ fn write_if_named(
     names: &[u8],
 ) -> Result<(), NoMemory>
     requires { IsHeader (header_of header) }
-    ensures written { (entries : List EntryData) (groups : List GroupData) → AreLeft tables.old entries groups
+    ensures written { (entries : List EntryData) (groups : List GroupData) → EntriesLeft tables.old entries groups
         → OnOk result (out.new.items ≡ out.old.items ++ (if is_among_in names.now header.entry.name.now
         then header_bytes (header_of header.entry) ++ entries_bytes entries else [])) }
-    ensures left { (entries : List EntryData) (groups : List GroupData) → AreLeft tables.old entries groups
-        → OnOk result ((others : List EntryData) × AreLeft tables.new others groups) }
+    ensures left { (entries : List EntryData) (groups : List GroupData) → EntriesLeft tables.old entries groups
+        → OnOk result ((others : List EntryData) × EntriesLeft tables.new others groups) }
     ensures ahead { tables.old.place ≤ tables.new.place }
     ensures file { tables.new.file ≡ tables.old.file }
 {
@@ -68,10 +68,10 @@ fn write_if_named(
 
 /// Appends the remaining entries of the open table.
 fn write_entries(out: &mut Vec<u8>, tables: &mut Tables<'_>) -> Result<(), NoMemory>
-    ensures written { (entries : List EntryData) (groups : List GroupData) → AreLeft tables.old entries groups
+    ensures written { (entries : List EntryData) (groups : List GroupData) → EntriesLeft tables.old entries groups
         → OnOk result (out.new.items ≡ out.old.items ++ entries_bytes entries) }
-    ensures left { (entries : List EntryData) (groups : List GroupData) → AreLeft tables.old entries groups
-        → OnOk result (AreLeft tables.new [] groups) }
+    ensures left { (entries : List EntryData) (groups : List GroupData) → EntriesLeft tables.old entries groups
+        → OnOk result (EntriesLeft tables.new [] groups) }
     ensures ahead { tables.old.place ≤ tables.new.place }
     ensures file { tables.new.file ≡ tables.old.file }
 {

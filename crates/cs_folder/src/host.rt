@@ -1,6 +1,6 @@
 //! The files of the machine.
 
-use crate::folder::{FILE_LIMIT, Folder, FolderFault};
+use crate::folder::{FILE_LIMIT, Folder, FolderError};
 use crate::output::write_file;
 use std::alloc::Global;
 use std::fs;
@@ -31,7 +31,7 @@ impl Folder for HostFolder<'_> {
 
     ghost files = { λ _. None };
 
-    fn read(&self, alloc: Global, name: &str) -> Result<Vec<u8>, FolderFault> {
+    fn read(&self, alloc: Global, name: &str) -> Result<Vec<u8>, FolderError> {
         let file = match fs::open(self.rt, name) {
             Ok(file) => file,
             Err(error) => return Err(fault_of(&error)),
@@ -39,12 +39,12 @@ impl Folder for HostFolder<'_> {
         let mut bytes = Vec::new(alloc);
         match file.take(FILE_LIMIT as u64 + 1).read_to_end(&mut bytes) {
             Ok(count) if count <= FILE_LIMIT => Ok(bytes),
-            Ok(_) => Err(FolderFault::Failed),
+            Ok(_) => Err(FolderError::Failed),
             Err(error) => Err(fault_of(&error)),
         }
     }
 
-    fn replace(&mut self, _alloc: Global, name: &str, bytes: &[u8]) -> Result<(), FolderFault> {
+    fn replace(&mut self, _alloc: Global, name: &str, bytes: &[u8]) -> Result<(), FolderError> {
         match write_file(self.rt, name, bytes) {
             Ok(()) => Ok(()),
             Err(error) => Err(fault_of(&error)),
@@ -53,9 +53,9 @@ impl Folder for HostFolder<'_> {
 }
 
 /// Returns the fault for a call that failed.
-fn fault_of(error: &Error) -> FolderFault {
+fn fault_of(error: &Error) -> FolderError {
     match error.kind() {
-        ErrorKind::OutOfMemory => FolderFault::NoMemory,
-        _ => FolderFault::Failed,
+        ErrorKind::OutOfMemory => FolderError::NoMemory,
+        _ => FolderError::Failed,
     }
 }

@@ -15,6 +15,6 @@ mod host;
 mod memory;
 mod output;
 
-pub use folder::{FILE_LIMIT, Folder, FolderFault};
+pub use folder::{FILE_LIMIT, Folder, FolderError};
 pub use host::HostFolder;
 pub use memory::MemoryFolder;

@@ -1,9 +1,9 @@
 //! Files in memory.
 ghost use Rattle.std.specs.Prelude.{◌≡◌, OnOk, OnErr, IfOk, IfErr, None, Some, MatchOption};
 ghost use Rattle.std.specs.FinMap as map;
-ghost use Rattle.cs_folder.specs.declared.folder.FolderFault.TheVariants.{NoMemory as OutOfMemory};
+ghost use Rattle.cs_folder.specs.declared.folder.FolderError.TheVariants.{NoMemory as OutOfMemory};
 
-use crate::folder::{FILE_LIMIT, Folder, FolderFault};
+use crate::folder::{FILE_LIMIT, Folder, FolderError};
 use std::alloc::Global;
 use std::collections::BTreeMap;
 use std::marker::Model;
@@ -49,14 +49,14 @@ impl MemoryFolder {
     }
 
     /// Puts a file under its name. A refusal changes nothing.
-    fn put(&mut self, name: Vec<u8>, bytes: Vec<u8>) -> Result<(), FolderFault>
+    fn put(&mut self, name: Vec<u8>, bytes: Vec<u8>) -> Result<(), FolderError>
         ensures put { OnOk result (self.new ≡ map.insert self.old name.items bytes.items) }
         ensures kept { OnErr result (self.new ≡ self.old) }
         ensures refused { IfErr result (λ fault. fault ≡ OutOfMemory) }
     {
         match self.files.insert(name, bytes) {
             Ok(_) => Ok(()),
-            Err(_) => Err(FolderFault::NoMemory),
+            Err(_) => Err(FolderError::NoMemory),
         }
     }
 }
@@ -66,26 +66,26 @@ impl Folder for MemoryFolder {
 
     ghost files = { λ m. Some m };
 
-    fn read(&self, alloc: Global, name: &str) -> Result<Vec<u8>, FolderFault> {
+    fn read(&self, alloc: Global, name: &str) -> Result<Vec<u8>, FolderError> {
         match self.get(name) {
             Some(bytes) if bytes.len() <= FILE_LIMIT => copy(alloc, bytes),
-            _ => Err(FolderFault::Failed),
+            _ => Err(FolderError::Failed),
         }
     }
 
-    fn replace(&mut self, alloc: Global, name: &str, bytes: &[u8]) -> Result<(), FolderFault> {
+    fn replace(&mut self, alloc: Global, name: &str, bytes: &[u8]) -> Result<(), FolderError> {
         let name = copy(alloc, name.as_bytes())?;
         self.put(name, copy(alloc, bytes)?)
     }
 }
 
 /// Returns a copy of bytes.
-fn copy(alloc: Global, bytes: &[u8]) -> Result<Vec<u8>, FolderFault>
+fn copy(alloc: Global, bytes: &[u8]) -> Result<Vec<u8>, FolderError>
     ensures copied { IfOk result (λ copied. copied.items ≡ bytes.now) }
     ensures refused { IfErr result (λ fault. fault ≡ OutOfMemory) }
 {
     match Vec::from_slice(alloc, bytes) {
         Ok(copied) => Ok(copied),
-        Err(_) => Err(FolderFault::NoMemory),
+        Err(_) => Err(FolderError::NoMemory),
     }
 }

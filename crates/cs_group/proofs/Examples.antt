@@ -16,7 +16,7 @@ use Rattle.cs_group.specs.declared.merging.Merged.{Merged}
 use Rattle.cs_group.specs.declared.merging.Merged.TheVariants.{Keep, Becomes, Vanish}
 use Rattle.cs_group.specs.Inverse.{IsInverse}
 use Rattle.cs_group.specs.Net.{net_between}
-use Rattle.cs_group.specs.Joining.{laid_over, merged, joined, key_places, AgreesWith, AreJoinable, FirstClash}
+use Rattle.cs_group.specs.Joining.{laid_over, merged, joined, key_marks, AgreesWith, AreJoinable, FirstClash}
 
 -- the row (1, 'y')
 abbrev later : List OwnedValue
@@ -177,7 +177,7 @@ wide = one_change_of wider (Insert (Int (pos 1) ∷ Null ∷ Null ∷ []))
 
 clashes : AgreesWith (one_change (Insert row)) (record { header = wider; entries = entry false (Insert (Int (pos 1) ∷ Null ∷ Null ∷ [])) ∷ [] }) → ⊥
 clashes agrees =
-    let same : key_places flags ≡ key_places wider.flags = agrees 0 (record { header = wider; entries = [] }) (omega arith) refl in
+    let same : key_marks flags ≡ key_marks wider.flags = agrees 0 (record { header = wider; entries = [] }) (omega arith) refl in
     absurd cc
 
 first_clashes : FirstClash (one_change (Insert row)) wide 0

@@ -8,7 +8,7 @@ use Rattle.cs_wire.specs.Entry.{IsEntry, key_of}
 use Rattle.cs_wire.specs.Changeset.{HeaderData, GroupData, IsGroup, IsChangeset}
 use Rattle.cs_group.specs.declared.merging.Merged.{Merged}
 use Rattle.cs_group.specs.declared.merging.Merged.TheVariants.{Keep, Becomes, Vanish}
-use Rattle.cs_group.specs.Joining.{merged, IfBecomes, FitsKey, table_name, with_text, outcome, left_of, joined_entry, joined_entries, some_group, joined_group, joined, key_places, Agrees, AgreesWith, AreJoinable}
+use Rattle.cs_group.specs.Joining.{merged, IfBecomes, FitsKey, table_name, with_text, outcome, left_of, joined_entry, joined_entries, some_group, joined_group, joined, key_marks, Agrees, AgreesWith, AreJoinable}
 use Rattle.cs_group.proofs.KeyPlaceLemmas.{key_of_same, fits_same}
 use Rattle.cs_group.proofs.MergeLemmas.{merged_fits}
 use Rattle.cs_group.proofs.TextLemmas.{Once, with_text-new, with_text-at, with_text-found, joined-once, joined-each}
@@ -35,7 +35,7 @@ key_of_fit flags key (Some e) h = h.same
 
 -- ---- groups
 
-module _ (first second : GroupData) (p : IsGroup first) (q : IsGroup second) (agree : key_places second.header.flags ≡ key_places first.header.flags) where
+module _ (first second : GroupData) (p : IsGroup first) (q : IsGroup second) (agree : key_marks second.header.flags ≡ key_marks first.header.flags) where
   abbrev flags : List ℕ
   flags = first.header.flags
 
@@ -69,10 +69,10 @@ module _ (first second : GroupData) (p : IsGroup first) (q : IsGroup second) (ag
 
 -- the group of one table in the second changeset has the columns of the first
 pub agree_found : (first second : List GroupData) (place : ℕ) (group : GroupData) → AreJoinable first second → place < length first → group ≡ get_or first place group
-    → IfSome (with_text table_name second group.header.name) (λ h. key_places h.header.flags ≡ key_places group.header.flags)
+    → IfSome (with_text table_name second group.header.name) (λ h. key_marks h.header.flags ≡ key_marks group.header.flags)
 agree_found first second place group joinable lt is = turned (with_text table_name second group.header.name) (with_text-found table_name (AgreesWith first) second group.header.name joinable)
   where
-    turned : (found : Option GroupData) → IfSome found (λ h. AgreesWith first h × (h.header.name ≡ group.header.name)) → IfSome found (λ h. key_places h.header.flags ≡ key_places group.header.flags)
+    turned : (found : Option GroupData) → IfSome found (λ h. AgreesWith first h × (h.header.name ≡ group.header.name)) → IfSome found (λ h. key_marks h.header.flags ≡ key_marks group.header.flags)
     turned None h = tt
     turned (Some other) h = let agrees : Agrees other group = rw (← is) at (h.0 place group lt) in sym (agrees (sym h.1))
 
@@ -82,12 +82,12 @@ agrees_unfound first group none k d lt same = absurd (with_text-new table_name f
 
 -- and else that one has to
 module _ (first : List GroupData) (group other : GroupData) (once : Once table_name first) (found : Some other ≡ with_text table_name first group.header.name) where
-  pub agrees_found : key_places other.header.flags ≡ key_places group.header.flags → AgreesWith first group
+  pub agrees_found : key_marks other.header.flags ≡ key_marks group.header.flags → AgreesWith first group
   agrees_found e k d lt same =
       let is : other ≡ get_or first k d = same_Some other (get_or first k d) (found ∙ with_text-at table_name first group.header.name k d once lt same) in
-      ap (λ (g : GroupData). key_places g.header.flags) (sym is) ∙ e
+      ap (λ (g : GroupData). key_marks g.header.flags) (sym is) ∙ e
 
-  pub found_agrees : AgreesWith first group → key_places other.header.flags ≡ key_places group.header.flags
+  pub found_agrees : AgreesWith first group → key_marks other.header.flags ≡ key_marks group.header.flags
   found_agrees all =
       let both : Agrees group other × (other.header.name ≡ group.header.name) = rw (← found) at (with_text-found table_name (Agrees group) first group.header.name all) in
       both.0 both.1

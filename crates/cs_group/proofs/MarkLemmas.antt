@@ -8,8 +8,8 @@ use Rattle.cs_value.proofs.ListLemmas.{filter_more_behind}
 use Rattle.cs_wire_entries.specs.declared.entry.Entry.{Entry}
 use Rattle.cs_wire.specs.Entry.{key_of}
 use Rattle.cs_wire.specs.Items.{FlaggedEntry}
-use Rattle.cs_wire.specs.Views.{IsPlaceOf}
-use Rattle.cs_group.specs.Joining.{is_new, if_new, joined_entry, key_places, left_of, merged, outcome, with_text}
+use Rattle.cs_wire.specs.Views.{IsIndexWhere}
+use Rattle.cs_group.specs.Joining.{is_new, if_new, joined_entry, key_marks, left_of, merged, outcome, with_text}
 use Rattle.cs_group.specs.Marks.{AreMet}
 use Rattle.cs_group.proofs.KeyPlaceLemmas.{key_of_same}
 use Rattle.cs_group.proofs.TextLemmas.{Once, not_same, with_text-none, with_text-place, with_text-same}
@@ -60,7 +60,7 @@ module _ {X : Type 0} (text_of : X → List ℕ) where
 
     -- one more that has the text of the one at this place
     pub AreMet-marked : (place : ℕ) → Once text_of seconds → length met ≡ length seconds
-        → IsPlaceOf (λ y. text_of y ≡ text_of x) seconds place → AreMet text_of (set met place true) (firsts ++ x ∷ []) seconds
+        → IsIndexWhere (λ y. text_of y ≡ text_of x) seconds place → AreMet text_of (set met place true) (firsts ++ x ∷ []) seconds
     AreMet-marked place once width at j d lt = ⊎_elim there (⊎_elim before behind) (cases_order j place)
       where
         text : ℕ → List ℕ
@@ -115,7 +115,7 @@ kept_and_new {X} kept new none mid_is grown_is =
 
 -- ---- an entry, and the one of its key among those of a table whose flags mark the same columns
 
-module _ (own flags : List ℕ) (seconds : List Entry) (entry : Entry) (agree : key_places own ≡ key_places flags) where
+module _ (own flags : List ℕ) (seconds : List Entry) (entry : Entry) (agree : key_marks own ≡ key_marks flags) where
   abbrev key : Entry → List ℕ
   key e = key_of flags e.change
 
@@ -131,13 +131,13 @@ module _ (own flags : List ℕ) (seconds : List Entry) (entry : Entry) (agree : 
   pub keys_of : All (λ e. key_of own e.change ≢ key_of flags entry.change) seconds → All (λ e. key_of flags e.change ≢ key_of flags entry.change) seconds
   keys_of none = λ k d lt same. none k d lt (one (get_or seconds k d) ∙ same)
 
-  pub place_of : (place : ℕ) → IsPlaceOf (λ e. key_of own e.change ≡ key_of flags entry.change) seconds place → IsPlaceOf (λ e. key_of flags e.change ≡ key_of flags entry.change) seconds place
+  pub place_of : (place : ℕ) → IsIndexWhere (λ e. key_of own e.change ≡ key_of flags entry.change) seconds place → IsIndexWhere (λ e. key_of flags e.change ≡ key_of flags entry.change) seconds place
   place_of place at = record { within = at.within; holds = λ d. sym (one (get_or seconds place d)) ∙ at.holds d }
 
   pub outcome_alone : All (λ e. key_of own e.change ≢ key_of flags entry.change) seconds → outcome (λ e. key_of flags e.change) (joined_entry flags) seconds entry ≡ Some entry
   outcome_alone none = ap (joined_entry flags entry) (with_text-none key seconds (key entry) (keys_of none))
 
-  module _ (place : ℕ) (second : Entry) (at : IsPlaceOf (λ e. key_of own e.change ≡ key_of flags entry.change) seconds place) (is : second ≡ get_or seconds place second) where
+  module _ (place : ℕ) (second : Entry) (at : IsIndexWhere (λ e. key_of own e.change ≡ key_of flags entry.change) seconds place) (is : second ≡ get_or seconds place second) where
     pub one_key : key_of flags entry.change ≡ key_of flags second.change
     one_key = sym (at.holds second) ∙ ap own_key (sym is) ∙ one second
 

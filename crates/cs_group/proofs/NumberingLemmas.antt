@@ -13,20 +13,20 @@ use Rattle.cs_wire_entries.specs.declared.entry.Entry.{Entry}
 use Rattle.cs_wire.specs.Entry.{IsEntry, key_of}
 use Rattle.cs_wire.specs.Changeset.{HeaderData, IsHeader, GroupData, ImageData, IsNewName, IsGroup, IsChangeset, flags_bytes, header_bytes, entries_bytes, group_bytes, file_bytes, image_of, group_images, images}
 use Rattle.cs_wire.specs.Inverse.{exchanged, IsInverseEntry}
-use Rattle.cs_group.specs.Joining.{table_name, key_places}
+use Rattle.cs_group.specs.Joining.{table_name, key_marks}
 use Rattle.cs_group.specs.Numbering.{next_number, numbered_behind, numbered_flags, numbered_header, numbered_group, numbered, InvertsNumbered}
 use Rattle.cs_group.proofs.InverseLemmas.{no_changeset}
 use Rattle.cs_group.proofs.KeyPlaceLemmas.{key_of_same, fits_same, after_image_same}
 
 -- ---- flags
 
-numbered_places : (last : ℕ) (flags : List ℕ) → key_places flags ≡ key_places (numbered_behind last flags)
+numbered_places : (last : ℕ) (flags : List ℕ) → key_marks flags ≡ key_marks (numbered_behind last flags)
 numbered_places last [] = refl
 numbered_places last (zero ∷ flags) = ap (λ (l : List Bool). false ∷ l) (numbered_places last flags)
 numbered_places last (suc flag ∷ flags) = ap (λ (l : List Bool). true ∷ l) (numbered_places (next_number last) flags)
 
 -- they mark the same columns
-pub places_stay : (flags : List ℕ) → key_places flags ≡ key_places (numbered_flags flags)
+pub places_stay : (flags : List ℕ) → key_marks flags ≡ key_marks (numbered_flags flags)
 places_stay flags = numbered_places 0 flags
 
 numbered_width : (last : ℕ) (flags : List ℕ) → length (numbered_behind last flags) ≡ length flags

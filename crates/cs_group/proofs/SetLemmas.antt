@@ -9,7 +9,7 @@ use Rattle.std.proofs.lemmas.List.Quantifiers.{position-Some}
 use Rattle.std.proofs.lemmas.Option.{none-some}
 use Rattle.indexmap.specs.IndexSet.{insert_key}
 use Rattle.cs_value.proofs.ListLemmas.{take_more_at}
-use Rattle.cs_wire.specs.Views.{IsPlaceOf}
+use Rattle.cs_wire.specs.Views.{IsIndexWhere}
 use Rattle.cs_group.proofs.TextLemmas.{Once}
 
 -- ---- whether a list has a text
@@ -49,7 +49,7 @@ module _ {K X : Type 0} (text : K → List ℕ) (text_of : X → List ℕ) (keys
   any_named = any_mapped name text keys ∙ ap (list_any (pointwise nat_eq name)) named
 
   -- the place of a text is that of the thing that has it
-  stands_at : (i : ℕ) (k : K) → i < length keys → tests (get_or keys i k) ≡ true → IsPlaceOf (λ x. text_of x ≡ name) xs i
+  stands_at : (i : ℕ) (k : K) → i < length keys → tests (get_or keys i k) ≡ true → IsIndexWhere (λ x. text_of x ≡ name) xs i
   stands_at i k within same =
       let long : length keys ≡ length xs = sym (length-map keys text) ∙ ap (λ (l : List (List ℕ)). length l) named ∙ length-map xs text_of in
       let inside : i < length xs = rw (← long) within in record {
@@ -58,11 +58,11 @@ module _ {K X : Type 0} (text : K → List ℕ) (text_of : X → List ℕ) (keys
             ∙ sym (same_text name (text (get_or keys i k)) (sym same));
       }
 
-  pub place_found : (place : Option ℕ) → place ≡ position tests keys → IfSome place (IsPlaceOf (λ x. text_of x ≡ name) xs)
+  pub place_found : (place : Option ℕ) → place ≡ position tests keys → IfSome place (IsIndexWhere (λ x. text_of x ≡ name) xs)
   place_found None e = tt
   place_found (Some i) e = at keys refl
     where
-      at : (ks : List K) → ks ≡ keys → IsPlaceOf (λ x. text_of x ≡ name) xs i
+      at : (ks : List K) → ks ≡ keys → IsIndexWhere (λ x. text_of x ≡ name) xs i
       at [] none = absurd (none-some i (ap (position tests) none ∙ sym e))
       at (k ∷ ks) is = let found = position-Some tests keys i k (sym e) in stands_at i k found.0 found.1
 

@@ -7,7 +7,7 @@ use Rattle.std.proofs.lemmas.List.Elements.{All-nil, All-cons, All-head, All-tai
 use Rattle.std.proofs.lemmas.List.Kept.{AllPairs-cons, AllPairs-filter}
 use Rattle.std.proofs.lemmas.Option.{none-some}
 use Rattle.cs_value.proofs.ListLemmas.{AllPairs-head, AllPairs-tail}
-use Rattle.cs_wire.specs.Views.{IsPlaceOf}
+use Rattle.cs_wire.specs.Views.{IsIndexWhere}
 use Rattle.cs_group.specs.Joining.{with_text, is_new, outcome, joined_by}
 
 -- ---- lists
@@ -46,19 +46,19 @@ module _ {X : Type 0} (text_of : X → List ℕ) where
       let no = not_same (text_of x) text (same (text_of x) text) refl (All-head (λ x. text_of x ≢ text) x xs h) in
       rw no (with_text-none xs text (All-tail (λ x. text_of x ≢ text) x xs h))
 
-  pub with_text-at : (xs : List X) (text : List ℕ) (place : ℕ) (d : X) → Once xs → place < length xs → text_of (get_or xs place d) ≡ text → with_text text_of xs text ≡ Some (get_or xs place d)
-  with_text-at [] text place d once lt is = absurd (omega arith)
+  pub with_text-at : (xs : List X) (text : List ℕ) (index : ℕ) (d : X) → Once xs → index < length xs → text_of (get_or xs index d) ≡ text → with_text text_of xs text ≡ Some (get_or xs index d)
+  with_text-at [] text index d once lt is = absurd (omega arith)
   with_text-at (x ∷ xs) text zero d once lt is =
       let yes : same (text_of x) text ≡ true = rw (← is) (nat_list_eq_equiv.refl (text_of x)) in
       rw yes refl
-  with_text-at (x ∷ xs) text (suc place) d once lt is =
-      let other : text_of x ≢ text = λ same. AllPairs-head (λ x y. text_of x ≢ text_of y) x xs once place d (omega arith) (same ∙ sym is) in
+  with_text-at (x ∷ xs) text (suc index) d once lt is =
+      let other : text_of x ≢ text = λ same. AllPairs-head (λ x y. text_of x ≢ text_of y) x xs once index d (omega arith) (same ∙ sym is) in
       let no = not_same (text_of x) text (same (text_of x) text) refl other in
-      rw no (with_text-at xs text place d (AllPairs-tail (λ x y. text_of x ≢ text_of y) x xs once) (omega arith) is)
+      rw no (with_text-at xs text index d (AllPairs-tail (λ x y. text_of x ≢ text_of y) x xs once) (omega arith) is)
 
-  -- what stands at the place of the text is found
-  pub with_text-place : (xs : List X) (text : List ℕ) (place : ℕ) (x : X) → Once xs → IsPlaceOf (λ y. text_of y ≡ text) xs place → x ≡ get_or xs place x → Some x ≡ with_text text_of xs text
-  with_text-place xs text place x once at is = ap Some is ∙ sym (with_text-at xs text place x once at.within (at.holds x))
+  -- what stands at the index of the text is found
+  pub with_text-index : (xs : List X) (text : List ℕ) (index : ℕ) (x : X) → Once xs → IsIndexWhere (λ y. text_of y ≡ text) xs index → x ≡ get_or xs index x → Some x ≡ with_text text_of xs text
+  with_text-index xs text index x once at is = ap Some is ∙ sym (with_text-at xs text index x once at.within (at.holds x))
 
   -- no thing has the text where none is found
   pub with_text-new : (xs : List X) (text : List ℕ) → with_text text_of xs text ≡ None → All (λ x. text_of x ≢ text) xs

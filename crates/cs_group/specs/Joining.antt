@@ -138,13 +138,13 @@ joined = joined_by table_name joined_group
 -- ---- where two changesets can be joined
 
 -- whether each column is one of the key
-abbrev pub key_places : List ℕ → List Bool
-key_places flags = map (λ flag. by_flag flag false true) flags
+abbrev pub key_marks : List ℕ → List Bool
+key_marks flags = map (λ flag. by_flag flag false true) flags
 
 -- the table has the same columns and the same key in both
 abbrev pub Agrees : GroupData → GroupData → Type 0
 Agrees group other = other.header.name ≡ group.header.name
-    → key_places other.header.flags ≡ key_places group.header.flags
+    → key_marks other.header.flags ≡ key_marks group.header.flags
 
 abbrev pub AgreesWith : List GroupData → GroupData → Type 0
 AgreesWith groups group = All (Agrees group) groups

@@ -2,7 +2,7 @@
 ghost use Rattle.std.specs.Prelude.{◌≡◌, ◌↔◌, IfSome, IfNone, IsTrue, true, false, option_map};
 ghost use Rattle.cs_wire.specs.Changeset.{IsChangeset};
 ghost use Rattle.cs_group.specs.Net.{by_flag};
-ghost use Rattle.cs_group.specs.Joining.{table_name, with_text, key_places, AgreesWith, AreJoinable, FirstClash};
+ghost use Rattle.cs_group.specs.Joining.{table_name, with_text, key_marks, AgreesWith, AreJoinable, FirstClash};
 
 use cs_wire::{Changeset, Group};
 
@@ -31,7 +31,7 @@ fn agrees(first: &Changeset, group: &Group) -> bool
 
 /// Returns whether two tables with these flags have the same number of columns and the same key. It allocates nothing.
 pub fn have_same_columns(flags: &[u8], other: &[u8]) -> bool
-    ensures { IsTrue result ↔ (key_places flags.now ≡ key_places other.now) }
+    ensures { IsTrue result ↔ (key_marks flags.now ≡ key_marks other.now) }
 {
     if flags.len() != other.len() {
         return false;

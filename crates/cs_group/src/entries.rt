@@ -4,8 +4,8 @@ ghost use Rattle.std.specs.Prelude.{None, Some, false, filter, filter_map, if◌
 ghost use Rattle.cs_wire_entries.specs.declared.entry.Entry.{Entry as EntryData};
 ghost use Rattle.cs_wire.specs.Entry.{IsEntry, key_of};
 ghost use Rattle.cs_wire.specs.Changeset.{IsGroup};
-ghost use Rattle.cs_wire.specs.Views.{IsPlaceOf, group_keys};
-ghost use Rattle.cs_group.specs.Joining.{entry_key, key_places, is_new, left_of, merged, outcome, joined_entry, joined_entries};
+ghost use Rattle.cs_wire.specs.Views.{IsIndexWhere, group_keys};
+ghost use Rattle.cs_group.specs.Joining.{entry_key, key_marks, is_new, left_of, merged, outcome, joined_entry, joined_entries};
 ghost use Rattle.cs_group.specs.Marks.{AreMet};
 
 use crate::joined::JoinedEntries;
@@ -22,7 +22,7 @@ pub(crate) fn join_entries<'a>(
     first: &'a Group,
     second: &Group,
 ) -> Result<JoinedEntries<'a>, NoMemory>
-    requires agree { key_places second.now.header.flags ≡ key_places first.now.header.flags }
+    requires agree { key_marks second.now.header.flags ≡ key_marks first.now.header.flags }
     ensures flags { IfOk result (λ joined. joined.flags ≡ first.now.header.flags) }
     ensures same { IfOk result (λ joined. joined.entries
         ≡ joined_entries first.now.header.flags first.now.entries second.now.entries) }
@@ -48,7 +48,7 @@ fn keep_entries(
     second: &KeyedGroup<'_>,
     joined: &mut JoinedEntries<'_>,
 ) -> Result<Vec<bool>, NoMemory>
-    requires agree { key_places second.now.header.flags ≡ key_places first.now.header.flags }
+    requires agree { key_marks second.now.header.flags ≡ key_marks first.now.header.flags }
     requires flags { joined.old.flags ≡ first.now.header.flags }
     ensures kept { IfOk result (λ _. joined.new.entries ≡ joined.old.entries
         ++ filter_map (outcome (entry_key first.now.header.flags) (joined_entry first.now.header.flags) second.now.entries) first.now.entries) }
@@ -58,8 +58,8 @@ fn keep_entries(
 {
     let mut met = unmarked(alloc, second.group().entries().len())?;
     for entry in first.entries() {
-        if let Some(place) = join_entry(alloc, first, entry, second, joined)? {
-            met[place] = true;
+        if let Some(index) = join_entry(alloc, first, entry, second, joined)? {
+            met[index] = true;
         }
     }
     Ok(met)
@@ -75,17 +75,17 @@ fn add_new_entries(
 ) -> Result<(), NoMemory>
     requires keys { keys.keys ≡ group_keys second.now.header.flags second.now.entries }
     requires width { length met.now ≡ length second.now.entries }
-    requires agree { key_places second.now.header.flags ≡ key_places joined.old.flags }
+    requires agree { key_marks second.now.header.flags ≡ key_marks joined.old.flags }
     ensures grown { (firsts : List EntryData) → AreMet (entry_key joined.old.flags) met.now firsts second.now.entries
         → OnOk result (joined.new.entries ≡ joined.old.entries ++ filter (is_new (entry_key joined.old.flags) firsts) second.now.entries) }
     ensures same_flags { joined.new.flags ≡ joined.old.flags }
     ensures well_formed { IsGroup second.now }
 {
     let entries = second.entries();
-    let mut place = 0;
+    let mut index = 0;
     for key in keys {
-        add_unmet(alloc, joined, key, &entries[place], met[place])?;
-        place += 1;
+        add_unmet(alloc, joined, key, &entries[index], met[index])?;
+        index += 1;
     }
     Ok(())
 }
@@ -119,14 +119,14 @@ fn join_entry(
     second: &KeyedGroup<'_>,
     joined: &mut JoinedEntries<'_>,
 ) -> Result<Option<usize>, NoMemory>
-    requires agree { key_places second.now.header.flags ≡ key_places first.now.header.flags }
+    requires agree { key_marks second.now.header.flags ≡ key_marks first.now.header.flags }
     requires flags { joined.old.flags ≡ first.now.header.flags }
     requires fits { IsEntry first.now.header.flags entry.now }
     ensures joined { IfOk result (λ _. joined.new.entries ≡ joined.old.entries
         ++ option_to_list (outcome (entry_key first.now.header.flags) (joined_entry first.now.header.flags) second.now.entries entry.now)) }
-    ensures found { IfOk result (λ place. IfSome place (IsPlaceOf (λ e. key_of first.now.header.flags e.change
+    ensures found { IfOk result (λ index. IfSome index (IsIndexWhere (λ e. key_of first.now.header.flags e.change
         ≡ key_of first.now.header.flags entry.now.change) second.now.entries)) }
-    ensures absent { IfOk result (λ place. IsTrue (is_none place)
+    ensures absent { IfOk result (λ index. IsTrue (is_none index)
         → All (λ e. key_of first.now.header.flags e.change ≢ key_of first.now.header.flags entry.now.change) second.now.entries) }
     ensures same_flags { joined.new.flags ≡ joined.old.flags }
 {
@@ -137,11 +137,11 @@ fn join_entry(
             joined.push(key, entry)?;
             Ok(None)
         }
-        Some(place) => {
-            let other = &second.group().entries()[place];
+        Some(index) => {
+            let other = &second.group().entries()[index];
             let left = merge_entry(alloc, first, entry, second.group(), other)?;
             add_left(joined, key, left)?;
-            Ok(Some(place))
+            Ok(Some(index))
         }
     }
 }
@@ -166,7 +166,7 @@ fn merge_entry(
     second: &Group,
     other: &Entry,
 ) -> Result<Option<Entry>, NoMemory>
-    requires agree { key_places second.now.header.flags ≡ key_places first.now.header.flags }
+    requires agree { key_marks second.now.header.flags ≡ key_marks first.now.header.flags }
     requires one_key { key_of first.now.header.flags entry.now.change ≡ key_of first.now.header.flags other.now.change }
     requires fits { IsEntry first.now.header.flags entry.now }
     requires other_fits { IsEntry second.now.header.flags other.now }

@@ -13,7 +13,7 @@ use std::marker::Model;
 pub(crate) struct JoinedEntries<'a> {
     flags: &'a [u8],
     entries: Vec<Entry>,
-    // The key of each entry, at its place.
+    // The key of each entry, at its index.
     keys: Vec<Key>,
 }
 

@@ -4,9 +4,9 @@ ghost use Rattle.std.specs.Prelude.{filter, filter_map, is_none, option_to_list}
 ghost use Rattle.cs_value.specs.declared.refusal.OrNoMemory.TheVariants.{NoMemory as OutOfMemory};
 ghost use Rattle.cs_value.specs.Refusals.{Refuses};
 ghost use Rattle.cs_wire.specs.Changeset.{GroupData, IsChangeset, file_bytes};
-ghost use Rattle.cs_wire.specs.Views.{IsPlaceOf};
+ghost use Rattle.cs_wire.specs.Views.{IsIndexWhere};
 ghost use Rattle.cs_group.specs.Inverse.{IsInverse};
-ghost use Rattle.cs_group.specs.Joining.{table_name, key_places, AreJoinable, FirstClash, IsJoined};
+ghost use Rattle.cs_group.specs.Joining.{table_name, key_marks, AreJoinable, FirstClash, IsJoined};
 ghost use Rattle.cs_group.specs.Joining.{with_text, is_new, outcome, joined_group};
 ghost use Rattle.cs_group.specs.Marks.{AreMet};
 
@@ -43,7 +43,7 @@ pub fn concat(
     ensures clash { IfErr result (Refuses (λ f. FirstClash first.now second.now f.place)) }
     ensures joinable { IfErr result (λ f. f ≡ OutOfMemory → AreJoinable first.now second.now) }
 {
-    if let Some(place) = first_clash(first, second) {
+    if let Some(index) = first_clash(first, second) {
         return Err(ConcatFault::Fault(SchemaFault { place }));
     }
     Ok(join_all(alloc, first, second)?)
@@ -79,8 +79,8 @@ fn keep_groups(
 {
     let mut met = unmarked(alloc, second.groups().len())?;
     for group in first.groups() {
-        if let Some(place) = join_group(alloc, group, second, groups)? {
-            met[place] = true;
+        if let Some(index) = join_group(alloc, group, second, groups)? {
+            met[index] = true;
         }
     }
     Ok(met)
@@ -98,8 +98,8 @@ fn add_new_groups(
         → OnOk result (groups.new.items ≡ groups.old.items ++ filter (is_new table_name firsts) second.now) }
     ensures well_formed { IsChangeset second.now }
 {
-    for (place, group) in second.groups().iter().enumerate() {
-        if !met[place] {
+    for (index, group) in second.groups().iter().enumerate() {
+        if !met[index] {
             groups.push(group.copy(alloc)?)?;
         }
     }
@@ -115,11 +115,11 @@ fn join_group(
     groups: &mut Vec<Group>,
 ) -> Result<Option<usize>, NoMemory>
     requires agree { IfSome (with_text table_name second.now group.now.header.name)
-        (λ g. key_places g.header.flags ≡ key_places group.now.header.flags) }
+        (λ g. key_marks g.header.flags ≡ key_marks group.now.header.flags) }
     ensures joined { IfOk result (λ _. groups.new.items ≡ groups.old.items
         ++ option_to_list (outcome table_name joined_group second.now group.now)) }
-    ensures found { IfOk result (λ place. IfSome place (IsPlaceOf (λ g. g.header.name ≡ group.now.header.name) second.now)) }
-    ensures absent { IfOk result (λ place. IsTrue (is_none place)
+    ensures found { IfOk result (λ index. IfSome index (IsIndexWhere (λ g. g.header.name ≡ group.now.header.name) second.now)) }
+    ensures absent { IfOk result (λ index. IsTrue (is_none index)
         → All (λ g. g.header.name ≢ group.now.header.name) second.now) }
 {
     match second.find(group.header().name()) {
@@ -127,16 +127,16 @@ fn join_group(
             groups.push(group.copy(alloc)?)?;
             Ok(None)
         }
-        Some(place) => {
-            push_some(groups, join_groups(alloc, group, &second.groups()[place])?)?;
-            Ok(Some(place))
+        Some(index) => {
+            push_some(groups, join_groups(alloc, group, &second.groups()[index])?)?;
+            Ok(Some(index))
         }
     }
 }
 
 /// Returns the concatenation of two groups of one table, or None if nothing remains.
 fn join_groups(alloc: Global, first: &Group, second: &Group) -> Result<Option<Group>, NoMemory>
-    requires agree { key_places second.now.header.flags ≡ key_places first.now.header.flags }
+    requires agree { key_marks second.now.header.flags ≡ key_marks first.now.header.flags }
     ensures { IfOk result (λ group. group ≡ joined_group first.now (Some second.now)) }
 {
     let joined = join_entries(alloc, first, second)?;

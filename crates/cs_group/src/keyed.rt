@@ -2,7 +2,7 @@
 ghost use Rattle.std.specs.Prelude.{◌≡◌, ◌↔◌, IfOk, IfSome, IsTrue, is_none, map};
 ghost use Rattle.cs_wire.specs.Changeset.{IsChangeset, IsGroup, IsNewKey, IsNewName};
 ghost use Rattle.cs_wire.specs.Entry.{key_of};
-ghost use Rattle.cs_wire.specs.Views.{IsPlaceOf, group_keys, group_names};
+ghost use Rattle.cs_wire.specs.Views.{IsIndexWhere, group_keys, group_names};
 
 use cs_value::{Key, NoMemory};
 use cs_wire::{Changeset, Entry, Group};
@@ -14,7 +14,7 @@ use std::marker::Model;
 #[derive(Debug, Drop)]
 pub(crate) struct NamedGroups<'a> {
     changeset: &'a Changeset,
-    // The name of each group's table, at its place.
+    // The name of each group's table, at its index.
     names: IndexSet<&'a str>,
 }
 
@@ -50,7 +50,7 @@ impl<'a> NamedGroups<'a> {
 
     /// Returns the index of the group of a table, zero-based, or None. It allocates nothing.
     pub(crate) fn find(&self, name: &str) -> Option<usize>
-        ensures found { IfSome result (IsPlaceOf (λ g. g.header.name ≡ name.now) self.now) }
+        ensures found { IfSome result (IsIndexWhere (λ g. g.header.name ≡ name.now) self.now) }
         ensures absent { IsTrue (is_none result) ↔ IsNewName self.now name.now }
     {
         self.names.get_index_of(name)
@@ -74,7 +74,7 @@ fn names_of(alloc: Global, changeset: &Changeset) -> Result<IndexSet<&str>, NoMe
 #[derive(Debug, Drop)]
 pub(crate) struct KeyedGroup<'a> {
     group: &'a Group,
-    // The key of each entry, at its place.
+    // The key of each entry, at its index.
     keys: IndexSet<Key>,
 }
 
@@ -109,7 +109,7 @@ impl<'a> KeyedGroup<'a> {
 
     /// Returns the index of the entry with a key, zero-based, or None. It allocates nothing.
     pub(crate) fn find(&self, key: &Key) -> Option<usize>
-        ensures found { IfSome result (IsPlaceOf (λ e. key_of self.now.header.flags e.change ≡ key.now) self.now.entries) }
+        ensures found { IfSome result (IsIndexWhere (λ e. key_of self.now.header.flags e.change ≡ key.now) self.now.entries) }
         ensures absent { IsTrue (is_none result) ↔ IsNewKey self.now.header.flags self.now.entries key.now }
     {
         self.keys.get_index_of(key)

@@ -2,7 +2,7 @@
 ghost use Rattle.std.specs.Prelude.{◌≡◌, ℕ, List, IfOk};
 ghost use Rattle.cs_wire.specs.Entry.{IsEntry, key_of};
 ghost use Rattle.cs_group.specs.Net.{net_change as net_change_of};
-ghost use Rattle.cs_group.specs.Joining.{merged, joint_image, key_places, follows as follows_of, IfBecomes, FitsKey};
+ghost use Rattle.cs_group.specs.Joining.{merged, joint_image, key_marks, follows as follows_of, IfBecomes, FitsKey};
 
 use crate::image::{after_image, before_image, known};
 use crate::net::net_change;
@@ -34,7 +34,7 @@ fn net_of_both<'a>(
     first: &EntryRef<'a>,
     second: &EntryRef<'a>,
 ) -> Result<Option<Change>, NoMemory>
-    requires agree { key_places second.now.flags ≡ key_places first.now.flags }
+    requires agree { key_marks second.now.flags ≡ key_marks first.now.flags }
     ensures { IfOk result (λ net. net ≡ net_change_of first.now.flags
         (joint_image first.now.flags first.now.entry.change second.now.entry.change)) }
 {
@@ -57,7 +57,7 @@ pub fn merge_refs<'a>(
     first: &EntryRef<'a>,
     second: &EntryRef<'a>,
 ) -> Result<Merged, NoMemory>
-    requires agree { key_places second.now.flags ≡ key_places first.now.flags }
+    requires agree { key_marks second.now.flags ≡ key_marks first.now.flags }
     requires one_key { key_of first.now.flags first.now.entry.change ≡ key_of first.now.flags second.now.entry.change }
     ensures case { IfOk result (λ m. m ≡ merged first.now.flags first.now.entry second.now.entry) }
     ensures fits { IfOk result (λ m. IfBecomes m (FitsKey first.now.flags (key_of first.now.flags first.now.entry.change))) }

@@ -218,7 +218,7 @@ fn replace_row<B: Rows>(
     requires fits { B.is_honest rows.old → Fits (B.state rows.old) table.now key.now row.now }
     ensures put { B.is_honest rows.new → OnOk result (B.state rows.new
         ≡ with_row (B.state rows.old) table.now key.now row.now) }
-    ensures told { IfOk result (λ w. map written_of w.items
+    ensures reported { IfOk result (λ w. map written_of w.items
         ≡ record { table = table.now; key = key.now; former = Some former } ∷ []) }
     ensures refused { IfErr result IsResource }
     ensures caused { B.is_honest rows.new → IfErr result (IsCaused
@@ -246,7 +246,7 @@ fn move_row<B: Rows>(
     requires apart { key.now ≢ next.now }
     ensures moved { B.is_honest rows.new → OnOk result ((row_at (B.state rows.old) table.now next.now ≡ None)
         × (B.state rows.new ≡ with_row (without_row (B.state rows.old) table.now key.now) table.now next.now row.now)) }
-    ensures told { IfOk result (λ w. map written_of w.items
+    ensures reported { IfOk result (λ w. map written_of w.items
         ≡ record { table = table.now; key = key.now; former = Some former }
         ∷ record { table = table.now; key = next.now; former = None } ∷ []) }
     ensures refused { B.is_honest rows.new → IfErr result (λ e. ((e ≡ TakenKey)

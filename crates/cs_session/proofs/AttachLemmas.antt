@@ -14,22 +14,22 @@ use Rattle.cs_session.specs.declared.attached.Attached.{Attached}
 use Rattle.cs_session.specs.FirstImages.{AttachedTable, Notes, IsAttachedTable, IsNotes, rewound_rows, rewound}
 use Rattle.cs_session.specs.Attaching.{IsNewTable, Attaches, IsAttachRefusal}
 use Rattle.cs_session.specs.Faults.{fault_of}
-use Rattle.cs_session.specs.Views.{attached_of, IsPlace, IsSettled}
+use Rattle.cs_session.specs.Views.{attached_of, IsIndexOf, HasNonePending}
 
 -- ---- a name
 
 -- a table has the name where one is found
-pub is_attached : (name : List ℕ) (tables : List Attached) (place : ℕ) → IsPlace tables name place → Any (λ t. t.name ≡ name) (map attached_of tables)
-is_attached name [] place found = absurd (omega (arith, found.0))
-is_attached name (table ∷ tables) place found =
-    let t = get_or (table ∷ tables) place table in
-    (place, attached_of t, omega (arith, found.0, length-map (table ∷ tables) attached_of), get_or-map attached_of (table ∷ tables) place table (attached_of t) found.0, found.1 table)
+pub is_attached : (name : List ℕ) (tables : List Attached) (index : ℕ) → IsIndexOf tables name index → Any (λ t. t.name ≡ name) (map attached_of tables)
+is_attached name [] index found = absurd (omega (arith, found.0))
+is_attached name (table ∷ tables) index found =
+    let t = get_or (table ∷ tables) index table in
+    (index, attached_of t, omega (arith, found.0, length-map (table ∷ tables) attached_of), get_or-map attached_of (table ∷ tables) index table (attached_of t) found.0, found.1 table)
 
-pub attached_where_some : (name : List ℕ) (tables : List Attached) (place : Option ℕ) → is_some place ≡ true → IfSome place (IsPlace tables name) → Any (λ t. t.name ≡ name) (map attached_of tables)
+pub attached_where_some : (name : List ℕ) (tables : List Attached) (index : Option ℕ) → is_some index ≡ true → IfSome index (IsIndexOf tables name) → Any (λ t. t.name ≡ name) (map attached_of tables)
 attached_where_some name tables None e found = absurd (let apart : true ≡ false = sym e in cc)
 attached_where_some name tables (Some i) e found = is_attached name tables i found
 
-pub new_where_none : (name : List ℕ) (tables : List Attached) (place : Option ℕ) → is_some place ≡ false → IfNone place (IsNewTable (map attached_of tables) name) → IsNewTable (map attached_of tables) name
+pub new_where_none : (name : List ℕ) (tables : List Attached) (index : Option ℕ) → is_some index ≡ false → IfNone index (IsNewTable (map attached_of tables) name) → IsNewTable (map attached_of tables) name
 new_where_none name tables None e fresh = fresh
 new_where_none name tables (Some i) e fresh = absurd (let apart : true ≡ false = e in cc)
 
@@ -74,9 +74,9 @@ one_more notes name schema is named is_schema fresh =
 
 -- what the code keeps of its tables
 pub push_keeps : (old new : List Attached) (name : List ℕ) (schema : SchemaData) → map attached_of new ≡ map attached_of old ++ record { name = name; schema = schema; firsts = [] } ∷ []
-    → (AllByRecursion IsSettled old → AllByRecursion IsSettled new) → IsNotes (map attached_of old) × AllByRecursion IsSettled old → IsName name → IsSchema schema → IsNewTable (map attached_of old) name
-    → IsNotes (map attached_of new) × AllByRecursion IsSettled new
-push_keeps old new name schema pushed settled are name_is schema_is fresh = (subst IsNotes (sym pushed) (one_more (map attached_of old) name schema are.0 name_is schema_is fresh), settled are.1)
+    → (AllByRecursion HasNonePending old → AllByRecursion HasNonePending new) → IsNotes (map attached_of old) × AllByRecursion HasNonePending old → IsName name → IsSchema schema → IsNewTable (map attached_of old) name
+    → IsNotes (map attached_of new) × AllByRecursion HasNonePending new
+push_keeps old new name schema pushed none_pending are name_is schema_is fresh = (subst IsNotes (sym pushed) (one_more (map attached_of old) name schema are.0 name_is schema_is fresh), none_pending are.1)
 
 -- ---- what attaching answers
 

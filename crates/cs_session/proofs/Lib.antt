@@ -9,10 +9,10 @@ pub mod AttachLemmas
 pub mod ImageLemmas
 pub mod NotingLemmas
 pub mod TablesLemmas
-pub mod PlacesLemmas
+pub mod IndexLemmas
 pub mod EntriesLemmas
 pub mod SchemaLemmas
-pub mod SettledLemmas
+pub mod PendingLemmas
 pub mod OutcomeLemmas
 pub mod RecordLemmas
 pub mod RunsLemmas

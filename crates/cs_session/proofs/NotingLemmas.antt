@@ -3,7 +3,7 @@ use Rattle.std.proofs.Common.{◌≡◌, ◌⊎◌, inl, inr, List, [], ◌∷�
 use Rattle.std.proofs.lemmas.List.{append-nil}
 use Rattle.std.specs.List.{AllByRecursion}
 use Rattle.cs_session.specs.declared.attached.Attached.{Attached}
-use Rattle.cs_session.specs.Views.{attached_of, kept_of, IsSettled}
+use Rattle.cs_session.specs.Views.{attached_of, kept_of, HasNonePending}
 
 -- a refusal for something that does not hold is one for what it follows from
 pub still_fails : {A B P Q : Type 0} → (Q → P) → A ⊎ (B × ¬ P) → A ⊎ (B × ¬ Q)
@@ -11,8 +11,8 @@ still_fails f (inl a) = inl a
 still_fails f (inr fails) = inr (fails.0, λ q. fails.1 (f q))
 
 -- where nothing is noted since, what is kept is all
-pub settled_kept : (tables : List Attached) → AllByRecursion IsSettled tables → map attached_of tables ≡ map kept_of tables
-settled_kept [] settled = refl
-settled_kept (table ∷ tables) settled =
-    let here : table.firsts.kept ++ table.firsts.pending ≡ table.firsts.kept = ap (λ (l : List _). table.firsts.kept ++ l) settled.0 ∙ append-nil table.firsts.kept in
-    cc (here, settled_kept tables settled.1)
+pub settled_kept : (tables : List Attached) → AllByRecursion HasNonePending tables → map attached_of tables ≡ map kept_of tables
+settled_kept [] none_pending = refl
+settled_kept (table ∷ tables) none_pending =
+    let here : table.firsts.kept ++ table.firsts.pending ≡ table.firsts.kept = ap (λ (l : List _). table.firsts.kept ++ l) none_pending.0 ∙ append-nil table.firsts.kept in
+    cc (here, settled_kept tables none_pending.1)

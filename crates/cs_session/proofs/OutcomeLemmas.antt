@@ -80,7 +80,7 @@ inverse_skips state (g ∷ changeset) (h ∷ inverse) all zip =
 store_refused : (e : ApplyFault) → applying.IsOfStore IsStoreFault e → IsOfStore IsStoreFault (apply_fault_of e)
 store_refused (apply.Store error) is = is
 store_refused (apply.Read fault) none = absurd none
-store_refused (apply.Wider place) none = absurd none
+store_refused (apply.Wider index) none = absurd none
 store_refused (apply.Abort conflict) none = absurd none
 store_refused (apply.Misuse conflict) none = absurd none
 store_refused apply.NoMemory none = absurd none
@@ -120,9 +120,9 @@ module _ (law : ChangesetFiles) (state : State) (notes : Notes) (is_state : IsSt
       → (report : Report) (new : State) → Applies chooses noop.Report file Inverse mid report new → Undoes notes state report new
   undoes chooses aborts file is_file mid same report new applies =
       let weaker = applies_weaker chooses AlwaysAborts aborts noop.Report file Inverse mid report new applies in
-      let told = rw (is_file, same) at weaker in
-      let back = reverts_ok AlwaysAborts law (file_bytes changes) (rewound_state notes state) state new report leads told in
-      record { attached = has; applied = told; no_conflict = back.0; none_skipped = skips_none report new told; back = rw back.1 given_back; rewound = back.1 }
+      let reported = rw (is_file, same) at weaker in
+      let back = reverts_ok AlwaysAborts law (file_bytes changes) (rewound_state notes state) state new report leads reported in
+      record { attached = has; applied = reported; no_conflict = back.0; none_skipped = skips_none report new reported; back = rw back.1 given_back; rewound = back.1 }
 
   -- or memory or the database refuses
   pub refuses_undo : (chooses : Handler) → ((k : Conflict) (c : Choice) → chooses k c → AlwaysAborts k c) → (file : List ℕ) → file ≡ file_bytes changes → (mid : State) → mid ≡ state

@@ -1,4 +1,4 @@
--- The tables of a session by their places, and what is noted in them, one write after another.
+-- The tables of a session by their indices, and what is noted in them, one write after another.
 use Rattle.std.proofs.Common.{bytes_eq, ◌≡◌, ◌≢◌, ◌⊎◌, ◌<◌, ℕ, zero, suc, Bool, true, false, cond, List, [], ◌∷◌, ◌++◌, length, get_or, set, drop, ◌+◌, map, refl, sym, ap, ◌∙◌, subst, arith}
 use Rattle.std.specs.Prelude.{IfSome, is_some, Option, Result, Ok, Err, OnOk, IfErr, All}
 use Rattle.std.specs.List.{AllByRecursion}
@@ -15,7 +15,7 @@ use Rattle.cs_session.specs.declared.fault.SessionFault.{SessionFault}
 use Rattle.cs_session.specs.declared.fault.SessionFault.TheVariants.{NoMemory as OutOfMemory}
 use Rattle.cs_session.specs.FirstImages.{FirstImage, AttachedTable, Notes, first_at, noted, writes_of, noted_in, recorded}
 use Rattle.cs_session.specs.Noting.{HasFormers, AreFormers, AreApart, Fits, IsDamage, with_write}
-use Rattle.cs_session.specs.Views.{attached_of, kept_of, name_in, IsNewAt, IsPlace}
+use Rattle.cs_session.specs.Views.{attached_of, kept_of, name_in, IsNewAt, IsIndexOf}
 use Rattle.cs_session.proofs.NotesLemmas.{names_stay}
 use Rattle.cs_session.proofs.NotingLemmas.{still_fails}
 
@@ -198,62 +198,62 @@ module _ (notes kept : Notes) (all : List WrittenData) where
       let is = sym (append-nil so.done) ∙ ap (λ (l : List WrittenData). so.done ++ l) (sym none) ∙ so.all_are in
       (so.noted ∙ ap (recorded notes) is, subst (AreFormers notes) is so.formers)
 
--- ---- a table by its place
+-- ---- a table by its index
 
-module _ (tables : List Attached) (name : List ℕ) (place : ℕ) (found : IsPlace tables name place) (item : Attached) (is : item ≡ get_or tables place item) where
+module _ (tables : List Attached) (name : List ℕ) (index : ℕ) (found : IsIndexOf tables name index) (item : Attached) (is : item ≡ get_or tables index item) where
   abbrev notes_of : Notes
   notes_of = map attached_of tables
 
-  stands : attached_of item ≡ get_or notes_of place (attached_of item)
-  stands = sym (get_or_map_at tables place item found.0 is attached_of)
+  stands : attached_of item ≡ get_or notes_of index (attached_of item)
+  stands = sym (get_or_map_at tables index item found.0 is attached_of)
 
-  within_notes : place < length notes_of
+  within_notes : index < length notes_of
   within_notes = rw (length-map tables attached_of) found.0
 
   pub item_named : rc_str_bytes item.name ≡ name
   item_named = ap name_in is ∙ found.1 item
 
   -- what is written over keeps the names, and what was kept
-  pub names_stand : {K : Type 0} (text : K → List ℕ) (keys : List K) (new : Attached) → map text keys ≡ map name_in tables → kept_of new ≡ kept_of item → map text keys ≡ map name_in (set tables place new)
-  names_stand text keys new named kept = named ∙ sym (map-set_same name_in tables place new item (ap (λ (t : AttachedTable). t.name) kept ∙ ap name_in is))
+  pub names_stand : {K : Type 0} (text : K → List ℕ) (keys : List K) (new : Attached) → map text keys ≡ map name_in tables → kept_of new ≡ kept_of item → map text keys ≡ map name_in (set tables index new)
+  names_stand text keys new named kept = named ∙ sym (map-set_same name_in tables index new item (ap (λ (t : AttachedTable). t.name) kept ∙ ap name_in is))
 
-  pub kept_stands : (new : Attached) → kept_of new ≡ kept_of item → map kept_of (set tables place new) ≡ map kept_of tables
-  kept_stands new kept = map-set_same kept_of tables place new item (kept ∙ ap kept_of is)
+  pub kept_stands : (new : Attached) → kept_of new ≡ kept_of item → map kept_of (set tables index new) ≡ map kept_of tables
+  kept_stands new kept = map-set_same kept_of tables index new item (kept ∙ ap kept_of is)
 
   -- a key that was not written in it is new there
-  pub new_at : (key : List ℕ) → is_some (first_at (attached_of item).firsts key) ≡ false → IsNewAt tables key place
+  pub new_at : (key : List ℕ) → is_some (first_at (attached_of item).firsts key) ≡ false → IsNewAt tables key index
   new_at key absent t at_place =
-      subst (λ (u : Attached). is_some (first_at (attached_of u).firsts key) ≡ false) (is ∙ get_or_default tables place item t found.0 ∙ sym at_place) absent
+      subst (λ (u : Attached). is_some (first_at (attached_of u).firsts key) ≡ false) (is ∙ get_or_default tables index item t found.0 ∙ sym at_place) absent
 
   module _ (apart : AreApart notes_of) (key : List ℕ) (former : Option (List OwnedValue)) where
     abbrev write : WrittenData
     write = record { table = name; key = key; former = former }
 
-    pub place_noted : {X E : Type 0} (r : Result X E) (new : Attached) → OnOk r (attached_of new ≡ with_write (attached_of item) key former)
-        → OnOk r (map attached_of (set tables place new) ≡ recorded notes_of (write ∷ []))
-    place_noted (Ok x) new noted = map-set attached_of tables place new ∙ ap (set notes_of place) noted
-        ∙ noted_at write notes_of place (attached_of item) (recursion_from_AllPairs Apart notes_of apart) within_notes stands item_named
-    place_noted (Err e) new noted = tt
+    pub index_noted : {X E : Type 0} (r : Result X E) (new : Attached) → OnOk r (attached_of new ≡ with_write (attached_of item) key former)
+        → OnOk r (map attached_of (set tables index new) ≡ recorded notes_of (write ∷ []))
+    index_noted (Ok x) new noted = map-set attached_of tables index new ∙ ap (set notes_of index) noted
+        ∙ noted_at write notes_of index (attached_of item) (recursion_from_AllPairs Apart notes_of apart) within_notes stands item_named
+    index_noted (Err e) new noted = tt
 
     -- nothing more is noted where the key is there
-    pub place_there : is_some (first_at (attached_of item).firsts key) ≡ true → notes_of ≡ recorded notes_of (write ∷ [])
-    place_there there =
+    pub index_there : is_some (first_at (attached_of item).firsts key) ≡ true → notes_of ≡ recorded notes_of (write ∷ [])
+    index_there there =
         let same : with_write (attached_of item) key former ≡ attached_of item = rw there refl in
-        sym (map-set_same attached_of tables place item item (ap attached_of is)) ∙ map-set attached_of tables place item ∙ ap (set notes_of place) (sym same)
-        ∙ noted_at write notes_of place (attached_of item) (recursion_from_AllPairs Apart notes_of apart) within_notes stands item_named
+        sym (map-set_same attached_of tables index item item (ap attached_of is)) ∙ map-set attached_of tables index item ∙ ap (set notes_of index) (sym same)
+        ∙ noted_at write notes_of index (attached_of item) (recursion_from_AllPairs Apart notes_of apart) within_notes stands item_named
 
-    pub place_formers : {X E : Type 0} (r : Result X E) → OnOk r (Fits (attached_of item) key former) → OnOk r (AreFormers notes_of (write ∷ []))
-    place_formers (Ok x) fits = formers_at write notes_of place (attached_of item) (recursion_from_AllPairs Apart notes_of apart) within_notes stands item_named fits
-    place_formers (Err e) fits = tt
+    pub index_formers : {X E : Type 0} (r : Result X E) → OnOk r (Fits (attached_of item) key former) → OnOk r (AreFormers notes_of (write ∷ []))
+    index_formers (Ok x) fits = formers_at write notes_of index (attached_of item) (recursion_from_AllPairs Apart notes_of apart) within_notes stands item_named fits
+    index_formers (Err e) fits = tt
 
-    pub place_refused : {X : Type 0} (r : Result X SessionFault) → IfErr r (λ e. (e ≡ OutOfMemory) ⊎ (IsDamage e × ¬ Fits (attached_of item) key former))
+    pub index_refused : {X : Type 0} (r : Result X SessionFault) → IfErr r (λ e. (e ≡ OutOfMemory) ⊎ (IsDamage e × ¬ Fits (attached_of item) key former))
         → IfErr r (λ e. (e ≡ OutOfMemory) ⊎ (IsDamage e × ¬ AreFormers notes_of (write ∷ [])))
-    place_refused (Ok x) refused = tt
-    place_refused (Err e) refused = still_fails (fits_at write notes_of place (attached_of item) within_notes stands item_named) refused
+    index_refused (Ok x) refused = tt
+    index_refused (Err e) refused = still_fails (fits_at write notes_of index (attached_of item) within_notes stands item_named) refused
 
   -- what holds of it holds of each of the name
   pub has_named : (P : AttachedTable → Type 0) → AreApart notes_of → P (attached_of item) → All (λ t. t.name ≡ name → P t) notes_of
-  has_named P apart has = All-from_recursion (λ (t : AttachedTable). t.name ≡ name → P t) notes_of (at notes_of place (recursion_from_AllPairs Apart notes_of apart) within_notes stands)
+  has_named P apart has = All-from_recursion (λ (t : AttachedTable). t.name ≡ name → P t) notes_of (at notes_of index (recursion_from_AllPairs Apart notes_of apart) within_notes stands)
     where
       none : (s : AttachedTable) → s.name ≡ name → (notes : Notes) → AllByRecursion (Apart s) notes → AllByRecursion (λ t. t.name ≡ name → P t) notes
       none s same notes apart = AllByRecursion-weaker (Apart s) (λ t. t.name ≡ name → P t) (λ t other named. absurd (other (same ∙ sym named))) notes apart

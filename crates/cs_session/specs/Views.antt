@@ -26,23 +26,23 @@ kept_of table = record {
 }
 
 -- nothing is noted since
-abbrev pub IsSettled : Attached → Type 0
-IsSettled table = table.firsts.pending ≡ []
+abbrev pub HasNonePending : Attached → Type 0
+HasNonePending table = table.firsts.pending ≡ []
 
 -- a table with this name stands there
-abbrev pub IsPlace : List Attached → List ℕ → ℕ → Type 0
-IsPlace tables name place = (place < length tables) × ((d : Attached) → name_in (get_or tables place d) ≡ name)
+abbrev pub IsIndexOf : List Attached → List ℕ → ℕ → Type 0
+IsIndexOf tables name index = (index < length tables) × ((d : Attached) → name_in (get_or tables index d) ≡ name)
 
 -- the key was not written in the table that stands there
 abbrev pub IsNewAt : List Attached → List ℕ → ℕ → Type 0
-IsNewAt tables key place =
-    (t : Attached) → t ≡ get_or tables place t → is_some (first_at (attached_of t).firsts key) ≡ false
+IsNewAt tables key index =
+    (t : Attached) → t ≡ get_or tables index t → is_some (first_at (attached_of t).firsts key) ≡ false
 
--- each table at another place than these is settled, and there is a table at each of these
-abbrev pub AreSettledBut : List ℕ → List Attached → Type 0
-AreSettledBut places tables = AllByRecursion (λ p. p < length tables) places
-    × ((i : ℕ) (t : Attached) → AllByRecursion (λ p. p ≢ i) places → i < length tables → t ≡ get_or tables i t → IsSettled t)
+-- each table at another index than these has nothing pending, and there is a table at each of these
+abbrev pub HaveNonePendingBut : List ℕ → List Attached → Type 0
+HaveNonePendingBut indices tables = AllByRecursion (λ p. p < length tables) indices
+    × ((i : ℕ) (t : Attached) → AllByRecursion (λ p. p ≢ i) indices → i < length tables → t ≡ get_or tables i t → HasNonePending t)
 
--- the place is one of these
+-- the index is one of these
 abbrev pub IsOpen : List ℕ → ℕ → Type 0
-IsOpen places place = ¬ AllByRecursion (λ p. p ≢ place) places
+IsOpen indices index = ¬ AllByRecursion (λ p. p ≢ index) indices

@@ -16,11 +16,11 @@ ghost use Rattle.cs_apply.specs.Crash.{AppliesInto};
 ghost use Rattle.cs_session.specs.Changes.{IsCaused, IsResource};
 ghost use Rattle.cs_session.specs.FirstImages.{IsNotes};
 ghost use Rattle.cs_session.specs.Recording.{RecordsApply, RefusesApply, IsApplyRefusal};
-ghost use Rattle.cs_session.specs.Views.{attached_of, kept_of, IsSettled};
+ghost use Rattle.cs_session.specs.Views.{attached_of, kept_of, HasNonePending};
 
 use crate::checking::check_tables;
 use crate::fault::SessionFault;
-use crate::tables::Tables;
+use crate::tables::AttachedTables;
 use cs_apply::{Choice, Conflict, Direction, Noop, Report, run_in};
 use cs_store::{Rows, Store};
 use sqlite::Alter;
@@ -29,7 +29,7 @@ use std::alloc::Global;
 /// Applies a file, notes the keys that were written, and commits. A refusal changes nothing.
 pub(crate) fn apply_noted<S: Alter, H: Fn(&Conflict) -> Choice>(
     alloc: Global,
-    tables: &mut Tables,
+    tables: &mut AttachedTables,
     store: &mut Store<S>,
     file: &[u8],
     noop: Noop,
@@ -37,13 +37,13 @@ pub(crate) fn apply_noted<S: Alter, H: Fn(&Conflict) -> Choice>(
 ) -> Result<Report, SessionFault>
     requires callable { H.IsAlwaysCallable handler.now }
     requires notes { IsNotes (map attached_of tables.old) }
-    requires settled { AllByRecursion IsSettled tables.old }
+    requires none_pending { AllByRecursion HasNonePending tables.old }
     ensures recorded { HasCleanDisk (state S.Store store.new) → IfOk result (λ report.
         RecordsApply (FnReturnsAt H.Fn handler.now) noop file.now (tables_in (state S.Store store.old).now)
         (map attached_of tables.old) report (tables_in (state S.Store store.new).now) (map attached_of tables.new)) }
     ensures same { OnErr result (map attached_of tables.new ≡ map attached_of tables.old) }
     ensures well_formed { IsNotes (map attached_of tables.new) }
-    ensures settled { AllByRecursion IsSettled tables.new }
+    ensures none_pending { AllByRecursion HasNonePending tables.new }
     ensures refused { HasCleanDisk (state S.Store store.new) → IfErr result (RefusesApply (FnReturnsAt H.Fn handler.now)
         noop file.now (tables_in (state S.Store store.old).now) (map attached_of tables.old)) }
     ensures shut { HasCleanDisk (state S.Store store.new) → RefusesShut (state S.Store store.old) IsResource result }
@@ -69,7 +69,7 @@ pub(crate) fn apply_noted<S: Alter, H: Fn(&Conflict) -> Choice>(
 /// it is refused, what was noted at the last commit stands.
 fn apply_batch<S: Alter, H: Fn(&Conflict) -> Choice>(
     alloc: Global,
-    tables: &mut Tables,
+    tables: &mut AttachedTables,
     store: &mut Store<S>,
     file: &[u8],
     noop: Noop,
@@ -102,7 +102,7 @@ fn apply_batch<S: Alter, H: Fn(&Conflict) -> Choice>(
 /// Applies a file to rows, and notes the keys that were written.
 fn apply_rows<B: Rows, H: Fn(&Conflict) -> Choice>(
     alloc: Global,
-    tables: &mut Tables,
+    tables: &mut AttachedTables,
     rows: &mut B,
     file: &[u8],
     noop: Noop,

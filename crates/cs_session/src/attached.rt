@@ -4,7 +4,7 @@ ghost use Rattle.std.specs.List.{AllByRecursion, list_all};
 ghost use Rattle.cs_session.specs.declared.fault.SessionFault.TheVariants.{NoMemory as OutOfMemory};
 ghost use Rattle.cs_session.specs.FirstImages.{first_at};
 ghost use Rattle.cs_session.specs.Noting.{Fits, IsDamage, with_write};
-ghost use Rattle.cs_session.specs.Views.{attached_of, kept_of, AreSettledBut, IsOpen, IsSettled};
+ghost use Rattle.cs_session.specs.Views.{attached_of, kept_of, HaveNonePendingBut, IsOpen, HasNonePending};
 
 use crate::checking::check_row;
 use crate::fault::SessionFault;
@@ -62,42 +62,42 @@ pub(crate) fn note_write(
     table.firsts.note(key, former)
 }
 
-/// What was noted since the last commit is committed, where it was noted in the tables at these places.
-pub(crate) fn keep_at(tables: &mut [Attached], places: &[usize])
-    requires { AreSettledBut places.now tables.old }
+/// What was noted since the last commit is committed, where it was noted in the tables at these indices.
+pub(crate) fn keep_at(tables: &mut [Attached], indices: &[usize])
+    requires { HaveNonePendingBut indices.now tables.old }
     ensures kept { map attached_of tables.new ≡ map attached_of tables.old }
-    ensures settled { AllByRecursion IsSettled tables.new }
+    ensures none_pending { AllByRecursion HasNonePending tables.new }
 {
-    for place in places {
-        tables[*place].firsts.keep();
+    for index in indices {
+        tables[*index].firsts.keep();
     }
 }
 
-/// What was noted since the last commit is forgotten, where it was noted in the tables at these places.
-pub(crate) fn cut_back_at(tables: &mut [Attached], places: &[usize])
-    requires { AreSettledBut places.now tables.old }
+/// What was noted since the last commit is forgotten, where it was noted in the tables at these indices.
+pub(crate) fn cut_back_at(tables: &mut [Attached], indices: &[usize])
+    requires { HaveNonePendingBut indices.now tables.old }
     ensures kept { map attached_of tables.new ≡ map kept_of tables.old }
-    ensures settled { AllByRecursion IsSettled tables.new }
+    ensures none_pending { AllByRecursion HasNonePending tables.new }
 {
-    for place in places {
-        tables[*place].firsts.cut_back();
+    for index in indices {
+        tables[*index].firsts.cut_back();
     }
 }
 
-/// Adds the place of a table in which something is about to be noted, unless it is the last of them. [`NoMemory`]
+/// Adds the index of a table in which something is about to be noted, unless it is the last of them. [`NoMemory`]
 /// changes nothing.
 pub(crate) fn open_at(
     tables: &[Attached],
-    places: &mut Vec<usize>,
-    place: usize,
+    indices: &mut Vec<usize>,
+    index: usize,
 ) -> Result<(), NoMemory>
-    requires within { place < length tables.now }
-    requires settled { AreSettledBut places.old.items tables.now }
-    ensures settled { AreSettledBut places.new.items tables.now }
-    ensures open { OnOk result (IsOpen places.new.items place) }
+    requires within { index < length tables.now }
+    requires none_pending { HaveNonePendingBut indices.old.items tables.now }
+    ensures none_pending { HaveNonePendingBut indices.new.items tables.now }
+    ensures open { OnOk result (IsOpen indices.new.items index) }
 {
-    if places.last() != Some(&place) {
-        places.push(place)?;
+    if indices.last() != Some(&index) {
+        indices.push(index)?;
     }
     Ok(())
 }

@@ -9,7 +9,7 @@ ghost use Rattle.cs_session.specs.Views.{attached_of};
 
 use crate::attached::Attached;
 use crate::fault::SessionFault;
-use crate::tables::Tables;
+use crate::tables::AttachedTables;
 use cs_store::{Rows, Schema, StoreError};
 use cs_value::{Key, Row};
 use std::alloc::Global;
@@ -39,7 +39,7 @@ pub(crate) fn check_tables<B: Rows>(
 pub(crate) fn check_named<B: Rows>(
     alloc: Global,
     rows: &mut B,
-    tables: &Tables,
+    tables: &AttachedTables,
     name: &str,
 ) -> Result<(), SessionFault>
     requires { AreApart (map attached_of tables.now) }
@@ -53,9 +53,9 @@ pub(crate) fn check_named<B: Rows>(
     ensures was_honest { B.is_honest rows.new → B.is_honest rows.old }
     ensures kept { B.keeps (λ _ _. ⊥) (is_ok result) rows.old rows.new }
 {
-    match tables.place_of(name) {
+    match tables.index_of(name) {
         None => Ok(()),
-        Some(place) => check_table(alloc, rows, &tables.as_slice()[place]),
+        Some(index) => check_table(alloc, rows, &tables.as_slice()[index]),
     }
 }
 

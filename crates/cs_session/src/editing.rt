@@ -14,11 +14,11 @@ ghost use Rattle.cs_store.specs.Store.{IsAtRest, RefusesShut, tables_in};
 ghost use Rattle.cs_session.specs.Changes.{IsCaused, IsResource};
 ghost use Rattle.cs_session.specs.FirstImages.{IsNotes};
 ghost use Rattle.cs_session.specs.Recording.{Records, RefusesEdit, IsEditRefusal, table_of};
-ghost use Rattle.cs_session.specs.Views.{attached_of, kept_of, IsSettled};
+ghost use Rattle.cs_session.specs.Views.{attached_of, kept_of, HasNonePending};
 
 use crate::checking::check_named;
 use crate::fault::SessionFault;
-use crate::tables::Tables;
+use crate::tables::AttachedTables;
 use cs_store::{Edit, Rows, Store, edit_in};
 use sqlite::Alter;
 use std::alloc::Global;
@@ -26,18 +26,18 @@ use std::alloc::Global;
 /// Carries out an edit, notes the keys that it wrote, and commits. A refusal changes nothing.
 pub(crate) fn edit_noted<S: Alter>(
     alloc: Global,
-    tables: &mut Tables,
+    tables: &mut AttachedTables,
     store: &mut Store<S>,
     edit: &Edit,
 ) -> Result<(), SessionFault>
     requires notes { IsNotes (map attached_of tables.old) }
-    requires settled { AllByRecursion IsSettled tables.old }
+    requires none_pending { AllByRecursion HasNonePending tables.old }
     ensures recorded { HasCleanDisk (state S.Store store.new)
         → OnOk result (Records (tables_in (state S.Store store.old).now) edit.now (map attached_of tables.old)
         (tables_in (state S.Store store.new).now) (map attached_of tables.new)) }
     ensures same { OnErr result (map attached_of tables.new ≡ map attached_of tables.old) }
     ensures well_formed { IsNotes (map attached_of tables.new) }
-    ensures settled { AllByRecursion IsSettled tables.new }
+    ensures none_pending { AllByRecursion HasNonePending tables.new }
     ensures refused { HasCleanDisk (state S.Store store.new)
         → IfErr result (RefusesEdit (tables_in (state S.Store store.old).now) edit.now (map attached_of tables.old)) }
     ensures shut { HasCleanDisk (state S.Store store.new) → RefusesShut (state S.Store store.old) IsResource result }
@@ -64,7 +64,7 @@ pub(crate) fn edit_noted<S: Alter>(
 /// it is refused, what was noted at the last commit stands.
 fn edit_batch<S: Alter>(
     alloc: Global,
-    tables: &mut Tables,
+    tables: &mut AttachedTables,
     store: &mut Store<S>,
     edit: &Edit,
 ) -> Result<(), SessionFault>
@@ -95,7 +95,7 @@ fn edit_batch<S: Alter>(
 /// Carries out an edit on rows, and notes the keys that it wrote.
 fn edit_rows<B: Rows>(
     alloc: Global,
-    tables: &mut Tables,
+    tables: &mut AttachedTables,
     rows: &mut B,
     edit: &Edit,
 ) -> Result<(), SessionFault>

@@ -27,7 +27,7 @@ use crate::attached::are_unwritten;
 use crate::changes::net_changeset;
 use crate::editing::edit_noted;
 use crate::fault::SessionFault;
-use crate::tables::Tables;
+use crate::tables::AttachedTables;
 use crate::undoing::undo_rows;
 use cs_apply::{Choice, Conflict, Noop, Report};
 use cs_store::{Edit, Schema, Store, StoreError};
@@ -40,21 +40,21 @@ use std::marker::Model;
 /// What was written to the rows of the tables that are attached to it, each since it was attached.
 #[derive(Debug, Drop)]
 pub struct Session {
-    tables: Tables,
+    tables: AttachedTables,
 }
 
 impl Model for Session {
     ghost use Rattle.std.specs.Prelude.{map};
     ghost use Rattle.std.specs.List.{AllByRecursion};
     ghost use Rattle.cs_session.specs.FirstImages.{Notes, IsNotes};
-    ghost use Rattle.cs_session.specs.Views.{attached_of, IsSettled};
+    ghost use Rattle.cs_session.specs.Views.{attached_of, HasNonePending};
 
     ghost Value = { Notes };
 
     ghost view = { λ s. map attached_of s.tables };
 
     ghost invariant = { λ s. IsNotes (map attached_of s.tables)
-        × AllByRecursion IsSettled s.tables };
+        × AllByRecursion HasNonePending s.tables };
 }
 
 impl Session {
@@ -63,7 +63,7 @@ impl Session {
         ensures { result ≡ [] }
     {
         Session {
-            tables: Tables::new(alloc),
+            tables: AttachedTables::new(alloc),
         }
     }
 
@@ -111,7 +111,7 @@ impl Session {
             → OnOk result ((state S.Store store.new).now ≡ (state S.Store store.old).now) }
         ensures kept { KeepsStore (state S.Store store.old) (state S.Store store.new) }
     {
-        if self.tables.place_of(name).is_some() {
+        if self.tables.index_of(name).is_some() {
             return Err(SessionFault::AlreadyAttached);
         }
         let Some(schema) = store.schema(alloc, name)? else {

@@ -7,7 +7,7 @@ ghost use Rattle.cs_session.specs.declared.fault.SessionFault.TheVariants.{NoMem
 ghost use Rattle.cs_session.specs.Attaching.{IsNewTable};
 ghost use Rattle.cs_session.specs.FirstImages.{AttachedTable, recorded};
 ghost use Rattle.cs_session.specs.Noting.{AreFormers, AreApart, IsDamage};
-ghost use Rattle.cs_session.specs.Views.{attached_of, kept_of, IsNewAt, IsPlace, IsSettled};
+ghost use Rattle.cs_session.specs.Views.{attached_of, kept_of, IsNewAt, IsIndexOf, HasNonePending};
 
 use crate::attached::{Attached, cut_back_at, is_noted, keep_at, note_write, open_at};
 use crate::fault::SessionFault;
@@ -21,34 +21,34 @@ use std::rc::RcStr;
 
 /// The tables that are attached, in the order in which they were attached.
 #[derive(Debug, Drop)]
-pub(crate) struct Tables {
+pub(crate) struct AttachedTables {
     tables: Vec<Attached>,
-    // The name of each, at its place.
+    // The name of each, at its index.
     names: IndexSet<RcStr>,
-    // The places of those in which something may be noted since the last commit.
+    // The indices of those in which something may be noted since the last commit.
     noted: Vec<usize>,
 }
 
-impl Model for Tables {
+impl Model for AttachedTables {
     ghost use Rattle.std.specs.Prelude.{◌≡◌, List, map};
     ghost use Rattle.std.specs.Rc.{rc_str_bytes};
     ghost use Rattle.cs_session.specs.declared.attached.Attached.{Attached};
-    ghost use Rattle.cs_session.specs.Views.{name_in, AreSettledBut};
+    ghost use Rattle.cs_session.specs.Views.{name_in, HaveNonePendingBut};
 
     ghost Value = { List Attached };
 
     ghost view = { λ t. t.tables.items };
 
     ghost invariant = { λ t. (map rc_str_bytes t.names.keys ≡ map name_in t.tables.items)
-        × AreSettledBut t.noted.items t.tables.items };
+        × HaveNonePendingBut t.noted.items t.tables.items };
 }
 
-impl Tables {
+impl AttachedTables {
     /// No table is attached.
-    pub(crate) fn new(alloc: Global) -> Tables
+    pub(crate) fn new(alloc: Global) -> AttachedTables
         ensures { result ≡ [] }
     {
-        Tables {
+        AttachedTables {
             tables: Vec::new(alloc),
             names: IndexSet::new(alloc),
             noted: Vec::new(alloc),
@@ -63,8 +63,8 @@ impl Tables {
     }
 
     /// Where the table with this name stands, if one has it.
-    pub(crate) fn place_of(&self, name: &str) -> Option<usize>
-        ensures found { IfSome result (IsPlace self.now name.now) }
+    pub(crate) fn index_of(&self, name: &str) -> Option<usize>
+        ensures found { IfSome result (IsIndexOf self.now name.now) }
         ensures none { IfNone result (IsNewTable (map attached_of self.now) name.now) }
     {
         self.names.get_index_of(name)
@@ -75,7 +75,7 @@ impl Tables {
         requires { IsNewTable (map attached_of self.old) name.now }
         ensures pushed { OnOk result (map attached_of self.new ≡ map attached_of self.old
             ++ (let t : AttachedTable = record { name = name.now; schema = schema; firsts = [] } in t) ∷ []) }
-        ensures settled { AllByRecursion IsSettled self.old → AllByRecursion IsSettled self.new }
+        ensures none_pending { AllByRecursion HasNonePending self.old → AllByRecursion HasNonePending self.new }
         ensures same { OnErr result (self.new ≡ self.old) }
     {
         let name = RcStr::from_str(alloc, name)?;
@@ -111,19 +111,19 @@ impl Tables {
             ⊎ (IsDamage e × ¬ AreFormers (map attached_of self.old) (map written_of written.now))) }
     {
         for one in written {
-            let Some(place) = self.place_for(alloc, one)? else {
+            let Some(index) = self.index_for(alloc, one)? else {
                 continue;
             };
-            self.note_at(place, copy_of(alloc, one)?)?;
+            self.note_at(index, copy_of(alloc, one)?)?;
         }
         Ok(())
     }
 
-    /// Where a key that was written is to be noted: at the place of its table, and nowhere where the table is not
-    /// attached, or the key is noted already. Refuses as [`note_all`](Tables::note_all) does.
-    fn place_for(&self, alloc: Global, one: &Written) -> Result<Option<usize>, SessionFault>
+    /// Where a key that was written is to be noted: at the index of its table, and nowhere where the table is not
+    /// attached, or the key is noted already. Refuses as [`note_all`](AttachedTables::note_all) does.
+    fn index_for(&self, alloc: Global, one: &Written) -> Result<Option<usize>, SessionFault>
         requires { AreApart (map attached_of self.now) }
-        ensures place { IfOk result (λ to. IfSome to (IsPlace self.now (rc_str_bytes one.now.table))) }
+        ensures index { IfOk result (λ to. IfSome to (IsIndexOf self.now (rc_str_bytes one.now.table))) }
         ensures new { IfOk result (λ to. IfSome to (IsNewAt self.now one.now.key)) }
         ensures nowhere { IfOk result (λ to. IfNone to (map attached_of self.now
             ≡ recorded (map attached_of self.now) (written_of one.now ∷ []))) }
@@ -131,33 +131,33 @@ impl Tables {
         ensures refused { IfErr result (λ e. (e ≡ OutOfMemory)
             ⊎ (IsDamage e × ¬ AreFormers (map attached_of self.now) (written_of one.now ∷ []))) }
     {
-        let Some(place) = self.place_of(one.table.as_str()) else {
+        let Some(index) = self.index_of(one.table.as_str()) else {
             return Ok(None);
         };
-        let was_noted = is_noted(alloc, &self.tables[place], &one.key, one.former.as_ref())?;
+        let was_noted = is_noted(alloc, &self.tables[index], &one.key, one.former.as_ref())?;
         if was_noted {
             return Ok(None);
         }
-        Ok(Some(place))
+        Ok(Some(index))
     }
 
-    /// Notes a key that was not written before in its table, at this place.
-    fn note_at(&mut self, place: usize, one: Written) -> Result<(), NoMemory>
+    /// Notes a key that was not written before in its table, at this index.
+    fn note_at(&mut self, index: usize, one: Written) -> Result<(), NoMemory>
         requires apart { AreApart (map attached_of self.old) }
-        requires place { IsPlace self.old (rc_str_bytes one.table) place }
-        requires new { IsNewAt self.old one.key place }
+        requires index { IsIndexOf self.old (rc_str_bytes one.table) index }
+        requires new { IsNewAt self.old one.key index }
         ensures noted { OnOk result (map attached_of self.new
             ≡ recorded (map attached_of self.old) (written_of one ∷ [])) }
         ensures kept { map kept_of self.new ≡ map kept_of self.old }
     {
-        open_at(&self.tables, &mut self.noted, place)?;
-        note_write(&mut self.tables[place], one.key, one.former)
+        open_at(&self.tables, &mut self.noted, index)?;
+        note_write(&mut self.tables[index], one.key, one.former)
     }
 
     /// What was noted since the last commit is committed.
     pub(crate) fn keep(&mut self)
         ensures kept { map attached_of self.new ≡ map attached_of self.old }
-        ensures settled { AllByRecursion IsSettled self.new }
+        ensures none_pending { AllByRecursion HasNonePending self.new }
     {
         keep_at(&mut self.tables, &self.noted);
         self.noted.clear();
@@ -166,7 +166,7 @@ impl Tables {
     /// What was noted since the last commit is forgotten.
     pub(crate) fn cut_back(&mut self)
         ensures kept { map attached_of self.new ≡ map kept_of self.old }
-        ensures settled { AllByRecursion IsSettled self.new }
+        ensures none_pending { AllByRecursion HasNonePending self.new }
     {
         cut_back_at(&mut self.tables, &self.noted);
         self.noted.clear();

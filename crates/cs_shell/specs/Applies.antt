@@ -13,7 +13,7 @@ use Rattle.cs_files.specs.Calls.{Writes}
 use Rattle.cs_folder.specs.Files.{Files, HasFile}
 use Rattle.cs_store_folder.specs.Visits.{RefusesVisit, Visits}
 use Rattle.cs_shell.specs.Words.{in_memory}
-use Rattle.cs_shell_script.specs.Script.{AnswersApply, ApplyGives, ByKind}
+use Rattle.cs_shell_script.specs.LineAnswers.{AnswersApply, ApplyGives, ByKind}
 use Rattle.cs_shell_script.specs.Works.{Gave}
 use Rattle.cs_shell_replies.specs.declared.refusal.Refusal.{Refusal}
 use Rattle.cs_shell_replies.specs.declared.refusal.Refusal.TheVariants as refusal

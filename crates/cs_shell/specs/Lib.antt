@@ -34,7 +34,7 @@ pub use Rattle.cs_files.specs.Calls
 pub use Rattle.cs_files.specs.Told
 pub use Rattle.cs_files.specs.Texts
 pub use Rattle.cs_shell_script.specs.ShellState
-pub use Rattle.cs_shell_script.specs.Script
+pub use Rattle.cs_shell_script.specs.LineAnswers
 pub use Rattle.cs_shell_script.specs.Works
 pub use Rattle.cs_shell_replies.specs.ErrorLines
 pub use Rattle.cs_shell_replies.specs.Replies

@@ -27,7 +27,7 @@ struct Applying<'a> {
 }
 
 impl Visitor for Applying<'_> {
-    ghost use Rattle.cs_shell_script.specs.Script.{AnswersApply};
+    ghost use Rattle.cs_shell_script.specs.LineAnswers.{AnswersApply};
     ghost use Rattle.cs_shell_replies.specs.Replies.{answer_of};
     ghost use Rattle.cs_shell.specs.Applies.{FileGives};
 

@@ -6,7 +6,7 @@ ghost use Rattle.cs_shell.specs.Folders.{InvertsFile, JoinsFiles, PrintsFile};
 ghost use Rattle.cs_shell.specs.Folders.{RefusesInvert, RefusesJoin, RefusesPrint, RefusesRead, RefusesWrite};
 
 use cs_files::{OutputFault, Told, concat_bytes, invert_bytes, print_dump, print_sql};
-use cs_folder::{Folder, FolderFault};
+use cs_folder::{Folder, FolderError};
 use cs_shell_replies::Refusal;
 use std::alloc::Global;
 use std::io::Write;
@@ -22,8 +22,8 @@ pub(crate) fn read_file<F: Folder>(
 {
     match folder.read(alloc, file) {
         Ok(bytes) => Ok(bytes),
-        Err(FolderFault::NoMemory) => Err(Refusal::NoMemory),
-        Err(FolderFault::Failed) => Err(Refusal::Input),
+        Err(FolderError::NoMemory) => Err(Refusal::NoMemory),
+        Err(FolderError::Failed) => Err(Refusal::Input),
     }
 }
 
@@ -40,8 +40,8 @@ fn write_out<F: Folder>(
 {
     match folder.replace(alloc, out, bytes) {
         Ok(()) => Ok(()),
-        Err(FolderFault::NoMemory) => Err(Refusal::NoMemory),
-        Err(FolderFault::Failed) => Err(Refusal::Output(OutputFault)),
+        Err(FolderError::NoMemory) => Err(Refusal::NoMemory),
+        Err(FolderError::Failed) => Err(Refusal::Output(OutputFault)),
     }
 }
 

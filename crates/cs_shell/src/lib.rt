@@ -28,10 +28,10 @@ mod words;
 pub use action::Action;
 pub use applying::apply;
 pub use cs_files::{
-    FileFault, OutputFault, PrintFault, Told, ToolFault, concat_bytes, dump_file, dump_text,
+    FileFault, OutputFault, PrintError, Told, ToolFault, concat_bytes, dump_file, dump_text,
     first_fault, invert_bytes, number_keys_bytes, print_dump, print_sql, sql_file, sql_text,
 };
-pub use cs_folder::{Folder, FolderFault, HostFolder, MemoryFolder};
+pub use cs_folder::{Folder, FolderError, HostFolder, MemoryFolder};
 pub use cs_group::SchemaFault;
 pub use cs_shell_grammar::{Assignment, Command, LineFault, SyntaxFault, parse_line};
 pub use cs_shell_replies::report_text;

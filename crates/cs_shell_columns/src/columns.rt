@@ -5,7 +5,7 @@ ghost use Rattle.cs_shell_grammar.specs.Commands.{assignment_of};
 ghost use Rattle.cs_shell_columns.specs.Columns.{AreColumns, NamesKey, columns_of, marks_of};
 ghost use Rattle.cs_shell_columns.specs.Names.{texts_of, has_name, HasOthers};
 
-use crate::fault::{ColumnFault, UnknownColumn};
+use crate::fault::{ColumnError, UnknownColumn};
 use crate::names::{assigned_names, borrowed_names, name_set, names_of_key};
 use cs_rows::Schema;
 use cs_shell_grammar::Assignment;
@@ -20,7 +20,7 @@ pub fn key_marks(
     alloc: Global,
     columns: &[String],
     keys: &[String],
-) -> Result<Vec<bool>, ColumnFault>
+) -> Result<Vec<bool>, ColumnError>
     ensures marked { IfOk result (λ marks. marks.items
         ≡ marks_of (map string_bytes columns.now) (map string_bytes keys.now)) }
     ensures known { OnOk result (AreColumns (map string_bytes columns.now) (map string_bytes keys.now)) }
@@ -39,7 +39,7 @@ pub fn check_assignments(
     alloc: Global,
     schema: &Schema,
     assignments: &[Assignment],
-) -> Result<(), ColumnFault>
+) -> Result<(), ColumnError>
     ensures known { OnOk result (AreColumns schema.now.columns (columns_of (map assignment_of assignments.now))) }
     ensures refused { IfErr result (Refuses (λ _.
         ¬ AreColumns schema.now.columns (columns_of (map assignment_of assignments.now)))) }
@@ -56,7 +56,7 @@ pub fn check_conditions(
     alloc: Global,
     schema: &Schema,
     conditions: &[Assignment],
-) -> Result<(), ColumnFault>
+) -> Result<(), ColumnError>
     ensures named { OnOk result (NamesKey schema.now (map assignment_of conditions.now)) }
     ensures refused { IfErr result (Refuses (λ _. ¬ NamesKey schema.now (map assignment_of conditions.now))) }
 {
@@ -74,7 +74,7 @@ fn without<'a>(
     alloc: Global,
     columns: &[&'a str],
     names: &[&str],
-) -> Result<BTreeSet<&'a str>, ColumnFault>
+) -> Result<BTreeSet<&'a str>, ColumnError>
     ensures others { IfOk result (HasOthers (texts_of columns.now) (texts_of names.now)) }
     ensures known { OnOk result (AreColumns (texts_of columns.now) (texts_of names.now)) }
     ensures refused { IfErr result (Refuses (λ _. ¬ AreColumns (texts_of columns.now) (texts_of names.now))) }

@@ -30,4 +30,4 @@ impl Fault for UnknownColumn {
 }
 
 /// Why the columns of a statement are refused: a name does not fit them, or memory was refused.
-pub type ColumnFault = OrNoMemory<UnknownColumn>;
+pub type ColumnError = OrNoMemory<UnknownColumn>;

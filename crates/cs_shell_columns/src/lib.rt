@@ -20,5 +20,5 @@ mod names;
 mod rows;
 
 pub use columns::{check_assignments, check_conditions, key_marks};
-pub use fault::{ColumnFault, UnknownColumn};
+pub use fault::{ColumnError, UnknownColumn};
 pub use rows::{assign, named_key};

@@ -7,7 +7,7 @@ use Rattle.cs_shell_grammar.specs.declared.statement.NewColumn.{NewColumn}
 use Rattle.cs_shell_tokens.specs.Tokens.{Token, Fixed, Name, Value}
 use Rattle.cs_shell_grammar.specs.Commands.{rule_tokens, columns_tokens}
 use Rattle.cs_shell_grammar.specs.StatementReading.{Tokens, onto, name_of, name_in, fixed_in, is_fixed, is_null, null_in, rule_in}
-use Rattle.cs_shell_tokens.specs.Stops.{and_then}
+use Rattle.cs_shell_tokens.specs.Faults.{and_then}
 use Rattle.cs_shell_grammar.specs.StatementReading.{ColumnData, column_with, column_of, names_and_rules_of, column_in, columns_within, columns_behind, columns_in}
 use Rattle.cs_shell_grammar.proofs.StatementLaws.{some_of, some_pair, then_some, if_some, taken, fixed_taken, name_taken, is_fixed-is, name_is, map_some-append}
 use Rattle.cs_shell_grammar.proofs.StatementLemmas.{onto-nil, onto-onto}

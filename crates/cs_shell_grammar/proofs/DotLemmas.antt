@@ -3,7 +3,7 @@ use Rattle.std.proofs.Common.{◌≡◌, ℕ, List, [], ◌∷◌, ◌++◌, Opt
 use Rattle.std.specs.Prelude.{if◌then◌else◌}
 use Rattle.cs_shell_tokens.specs.Tokens.{is_blank}
 use Rattle.cs_shell_tokens.specs.Words.{Words, words_of, ends_word, onto_first, behind_word, one_slot_in, no_word_in}
-use Rattle.cs_shell_tokens.specs.Stops.{and_then}
+use Rattle.cs_shell_tokens.specs.Faults.{and_then}
 use Rattle.cs_shell_grammar.specs.declared.dot.Settings.{Settings}
 use Rattle.std.specs.Prelude.{codes}
 use Rattle.std.specs.Str.{bytes_eq}

@@ -13,7 +13,7 @@ use Rattle.cs_apply_conflicts.specs.declared.conflict.Noop.{Noop}
 use Rattle.cs_apply_conflicts.specs.declared.conflict.Noop.TheVariants.{Report, Ignore}
 use Rattle.cs_shell_grammar.specs.declared.dot.Settings.{Settings}
 use Rattle.cs_shell_grammar.specs.Commands.{Apply, Setting, ForKind, ForNoop, option_of, setting_text, IsChosen}
-use Rattle.cs_shell_tokens.specs.Stops.{and_then}
+use Rattle.cs_shell_tokens.specs.Faults.{and_then}
 use Rattle.cs_shell_tokens.specs.Words.{Words, slot_in}
 use Rattle.cs_shell_grammar.specs.DotReading.{chosen_in, noop_in, when_none, or_else, setting_in, settings_in, no_settings, apply_in}
 use Rattle.cs_shell_grammar.proofs.StatementLaws.{then_some}

@@ -8,7 +8,7 @@ use Rattle.cs_shell_tokens.specs.declared.symbol.Symbol.TheVariants as symbol
 use Rattle.cs_shell_tokens.specs.Tokens.{Token, Fixed, Name, Value}
 use Rattle.cs_shell_grammar.specs.Commands.{AssignmentData, joined, assignment}
 use Rattle.cs_shell_grammar.specs.StatementReading.{Tokens, onto, going, turn_of, name_of, name_in, value_of_token, value_in, fixed_in, is_fixed}
-use Rattle.cs_shell_tokens.specs.Stops.{and_then}
+use Rattle.cs_shell_tokens.specs.Faults.{and_then}
 use Rattle.cs_shell_tokens.specs.Reading.{symbol_place, same_symbol}
 use Rattle.cs_shell_grammar.specs.StatementReading.{list_in, assignment_of_tokens, assignments_in}
 

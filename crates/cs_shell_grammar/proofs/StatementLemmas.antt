@@ -7,7 +7,7 @@ use Rattle.cs_shell_tokens.specs.declared.symbol.Symbol.TheVariants as symbol
 use Rattle.cs_shell_tokens.specs.Tokens.{Token, Fixed, Name, Value}
 use Rattle.cs_shell_grammar.specs.Commands.{AssignmentData}
 use Rattle.cs_shell_grammar.specs.StatementReading.{Tokens, onto, going, first_in, turn_of, turn_in, name_of, name_in, value_of_token, value_in, fixed_in, is_fixed}
-use Rattle.cs_shell_tokens.specs.Stops.{and_then}
+use Rattle.cs_shell_tokens.specs.Faults.{and_then}
 use Rattle.cs_shell_grammar.specs.StatementReading.{list_in, assignment_of_tokens, assignment_in, assignments_in}
 use Rattle.cs_shell_tokens.specs.Reading.{same_symbol}
 use Rattle.cs_shell_grammar.specs.StatementReading.{symbol_in, form_of, form_in, create_in, insert_in, update_in, delete_in, select_in}

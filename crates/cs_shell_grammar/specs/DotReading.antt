@@ -15,7 +15,7 @@ use Rattle.cs_shell_grammar.specs.Commands.{CommandData, Load, Hex, Dump, Invert
 use Rattle.cs_shell_grammar.specs.Commands.{SessionOpen, SessionAttach, SessionChangeset, SessionIsEmpty, SessionUndo, SessionClose}
 use Rattle.cs_shell_grammar.specs.Commands.{ForKind, ForNoop, setting_text}
 use Rattle.cs_shell_tokens.specs.Reading.{tokens_of}
-use Rattle.cs_shell_tokens.specs.Stops.{and_then}
+use Rattle.cs_shell_tokens.specs.Faults.{and_then}
 use Rattle.cs_shell_grammar.specs.StatementReading.{name_of}
 
 unfoldable pub digits_in : Words → Option (List ℕ)

@@ -6,6 +6,6 @@ pub mod LineReading
 pub use Rattle.cs_shell_tokens.specs.Tokens
 pub use Rattle.cs_shell_tokens.specs.Words
 pub use Rattle.cs_shell_tokens.specs.Reading
-pub use Rattle.cs_shell_tokens.specs.Stops
+pub use Rattle.cs_shell_tokens.specs.Faults
 pub use Rattle.cs_value.specs.Value
 pub use Rattle.cs_value.specs.Quoting

@@ -9,7 +9,7 @@ use Rattle.cs_shell_tokens.specs.declared.symbol.Symbol.TheVariants as symbol
 use Rattle.cs_shell_grammar.specs.declared.statement.NewColumn.{NewColumn}
 use Rattle.cs_shell_tokens.specs.Tokens.{Token, Fixed, Name, Value}
 use Rattle.cs_shell_grammar.specs.Commands.{CommandData, AssignmentData, Create, Insert, Update, Delete, Select}
-use Rattle.cs_shell_tokens.specs.Stops.{and_then}
+use Rattle.cs_shell_tokens.specs.Faults.{and_then}
 use Rattle.cs_shell_tokens.specs.Reading.{same_symbol}
 
 -- ---- statements, read token by token

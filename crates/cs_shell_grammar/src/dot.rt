@@ -3,7 +3,7 @@ ghost use Rattle.std.specs.Prelude.{◌≡◌, string_bytes, option_map};
 ghost use Rattle.cs_shell_grammar.specs.Commands.{command_of, SessionChangeset};
 ghost use Rattle.cs_shell_tokens.specs.Words.{words_of, one_slot_in, no_word_in};
 ghost use Rattle.cs_shell_tokens.specs.Reading.{tokens_of};
-ghost use Rattle.cs_shell_tokens.specs.Stops.{Reads};
+ghost use Rattle.cs_shell_tokens.specs.Faults.{Reads};
 ghost use Rattle.cs_shell_grammar.specs.DotReading.{load_in, digits_in, hex_in, dump_in, revert_in, invert_in, concat_in, apply_in};
 ghost use Rattle.cs_shell_grammar.specs.DotReading.{chosen_in, noop_in, setting_in, settings_in, no_settings, attach_in};
 ghost use Rattle.cs_shell_grammar.specs.DotReading.{session_in, dot_in};
@@ -11,7 +11,8 @@ ghost use Rattle.cs_shell_grammar.specs.DotReading.{session_in, dot_in};
 use crate::command::Command;
 use cs_apply_rows::{Choice, Kind, Noop, Policy};
 use cs_shell_tokens::{
-    Found, Stop, Token, is_word, misfit_at, next_token, next_word, no_word, one_slot, slot, text,
+    Found, Token, TokenError, is_word, misfit_at, next_token, next_word, no_word, one_slot, slot,
+    text,
 };
 use std::alloc::Global;
 
@@ -27,11 +28,11 @@ struct Settings {
 
 /// Returns the command of a dot line.
 #[tactic(auto, unfolding(crate::specs::DotReading::dot_in))]
-pub(crate) fn dot_line(alloc: Global, line: &[u8]) -> Result<Command, Stop>
+pub(crate) fn dot_line(alloc: Global, line: &[u8]) -> Result<Command, TokenError>
     ensures { Reads result command_of (dot_in line.now) }
 {
     let Some((word, rest)) = next_word(line) else {
-        return Err(Stop::Fault(misfit_at(line)));
+        return Err(TokenError::Fault(misfit_at(line)));
     };
     if is_word(word, b".load") {
         load(alloc, rest)
@@ -50,13 +51,13 @@ pub(crate) fn dot_line(alloc: Global, line: &[u8]) -> Result<Command, Stop>
     } else if is_word(word, b".session") {
         session(alloc, rest)
     } else {
-        Err(Stop::Fault(misfit_at(line)))
+        Err(TokenError::Fault(misfit_at(line)))
     }
 }
 
 /// What follows `.load`.
 #[tactic(auto, unfolding(crate::specs::DotReading::load_in))]
-fn load(alloc: Global, line: &[u8]) -> Result<Command, Stop>
+fn load(alloc: Global, line: &[u8]) -> Result<Command, TokenError>
     ensures { Reads result command_of (load_in (words_of line.now)) }
 {
     let (slot, rest) = slot(alloc, line)?;
@@ -66,7 +67,7 @@ fn load(alloc: Global, line: &[u8]) -> Result<Command, Stop>
 
 /// Returns the last word, or an empty text if there is no word.
 #[tactic(auto, unfolding(crate::specs::DotReading::digits_in))]
-fn digits(alloc: Global, line: &[u8]) -> Result<String, Stop>
+fn digits(alloc: Global, line: &[u8]) -> Result<String, TokenError>
     ensures { Reads result string_bytes (digits_in (words_of line.now)) }
 {
     if next_word(line).is_none() {
@@ -79,7 +80,7 @@ fn digits(alloc: Global, line: &[u8]) -> Result<String, Stop>
 
 /// What follows `.hex`.
 #[tactic(auto, unfolding(crate::specs::DotReading::hex_in))]
-fn hex(alloc: Global, line: &[u8]) -> Result<Command, Stop>
+fn hex(alloc: Global, line: &[u8]) -> Result<Command, TokenError>
     ensures { Reads result command_of (hex_in (words_of line.now)) }
 {
     let slot = one_slot(alloc, line)?;
@@ -88,7 +89,7 @@ fn hex(alloc: Global, line: &[u8]) -> Result<Command, Stop>
 
 /// What follows `.dump`.
 #[tactic(auto, unfolding(crate::specs::DotReading::dump_in))]
-fn dump(alloc: Global, line: &[u8]) -> Result<Command, Stop>
+fn dump(alloc: Global, line: &[u8]) -> Result<Command, TokenError>
     ensures { Reads result command_of (dump_in (words_of line.now)) }
 {
     let slot = one_slot(alloc, line)?;
@@ -97,7 +98,7 @@ fn dump(alloc: Global, line: &[u8]) -> Result<Command, Stop>
 
 /// What follows `.revert`.
 #[tactic(auto, unfolding(crate::specs::DotReading::revert_in))]
-fn revert(alloc: Global, line: &[u8]) -> Result<Command, Stop>
+fn revert(alloc: Global, line: &[u8]) -> Result<Command, TokenError>
     ensures { Reads result command_of (revert_in (words_of line.now)) }
 {
     let slot = one_slot(alloc, line)?;
@@ -106,7 +107,7 @@ fn revert(alloc: Global, line: &[u8]) -> Result<Command, Stop>
 
 /// What follows `.invert`.
 #[tactic(auto, unfolding(crate::specs::DotReading::invert_in))]
-fn invert(alloc: Global, line: &[u8]) -> Result<Command, Stop>
+fn invert(alloc: Global, line: &[u8]) -> Result<Command, TokenError>
     ensures { Reads result command_of (invert_in (words_of line.now)) }
 {
     let (from, rest) = slot(alloc, line)?;
@@ -116,7 +117,7 @@ fn invert(alloc: Global, line: &[u8]) -> Result<Command, Stop>
 
 /// What follows `.concat`.
 #[tactic(auto, unfolding(crate::specs::DotReading::concat_in))]
-fn concat(alloc: Global, line: &[u8]) -> Result<Command, Stop>
+fn concat(alloc: Global, line: &[u8]) -> Result<Command, TokenError>
     ensures { Reads result command_of (concat_in (words_of line.now)) }
 {
     let (first, rest) = slot(alloc, line)?;
@@ -131,7 +132,7 @@ fn concat(alloc: Global, line: &[u8]) -> Result<Command, Stop>
 
 /// What follows `.apply`.
 #[tactic(auto, unfolding(crate::specs::DotReading::apply_in))]
-fn apply(alloc: Global, line: &[u8]) -> Result<Command, Stop>
+fn apply(alloc: Global, line: &[u8]) -> Result<Command, TokenError>
     ensures { Reads result command_of (apply_in (words_of line.now)) }
 {
     let (slot, rest) = slot(alloc, line)?;
@@ -150,7 +151,7 @@ fn apply(alloc: Global, line: &[u8]) -> Result<Command, Stop>
 
 /// Returns the options that the words of a line set, each at most once.
 #[tactic(auto, using(crate::proofs::DotLemmas::settings_go, crate::proofs::DotLemmas::no_setting, crate::proofs::DotLemmas::settings_end))]
-fn read_settings(line: &[u8]) -> Result<Settings, Stop>
+fn read_settings(line: &[u8]) -> Result<Settings, TokenError>
     ensures { Reads result (λ s. s) (settings_in no_settings (words_of line.now)) }
 {
     let mut settings = Settings {
@@ -163,7 +164,7 @@ fn read_settings(line: &[u8]) -> Result<Settings, Stop>
     let mut rest = line;
     while let Some((word, after)) = next_word(rest) {
         let Some(more) = with_setting(settings, word) else {
-            return Err(Stop::Fault(misfit_at(rest)));
+            return Err(TokenError::Fault(misfit_at(rest)));
         };
         settings = more;
         rest = after;
@@ -247,11 +248,11 @@ fn chosen_noop(word: &[u8]) -> Option<Noop>
 
 /// What follows `.session`.
 #[tactic(auto, unfolding(crate::specs::DotReading::session_in))]
-fn session(alloc: Global, line: &[u8]) -> Result<Command, Stop>
+fn session(alloc: Global, line: &[u8]) -> Result<Command, TokenError>
     ensures { Reads result command_of (session_in line.now) }
 {
     let Some((word, rest)) = next_word(line) else {
-        return Err(Stop::Fault(misfit_at(line)));
+        return Err(TokenError::Fault(misfit_at(line)));
     };
     if is_word(word, b"attach") {
         attach(alloc, rest)
@@ -266,12 +267,12 @@ fn session(alloc: Global, line: &[u8]) -> Result<Command, Stop>
     } else if is_word(word, b"close") {
         bare(Command::SessionClose, rest)
     } else {
-        Err(Stop::Fault(misfit_at(line)))
+        Err(TokenError::Fault(misfit_at(line)))
     }
 }
 
 /// What follows `.session changeset`.
-fn changeset(alloc: Global, line: &[u8]) -> Result<Command, Stop>
+fn changeset(alloc: Global, line: &[u8]) -> Result<Command, TokenError>
     ensures { Reads result command_of (option_map SessionChangeset (one_slot_in (words_of line.now))) }
 {
     let slot = one_slot(alloc, line)?;
@@ -279,7 +280,7 @@ fn changeset(alloc: Global, line: &[u8]) -> Result<Command, Stop>
 }
 
 /// Returns a command, if nothing follows.
-fn bare(command: Command, line: &[u8]) -> Result<Command, Stop>
+fn bare(command: Command, line: &[u8]) -> Result<Command, TokenError>
     ensures { Reads result command_of (option_map (λ _. command_of command) (no_word_in (words_of line.now))) }
 {
     no_word(line)?;
@@ -288,17 +289,17 @@ fn bare(command: Command, line: &[u8]) -> Result<Command, Stop>
 
 /// What follows `.session attach`: the name of a table.
 #[tactic(auto, unfolding(crate::specs::DotReading::attach_in))]
-fn attach(alloc: Global, line: &[u8]) -> Result<Command, Stop>
+fn attach(alloc: Global, line: &[u8]) -> Result<Command, TokenError>
     ensures { Reads result command_of (attach_in (tokens_of line.now)) }
 {
     match next_token(alloc, line)? {
         Found::Token(token, rest) => match token {
             Token::Name(table) => match next_token(alloc, rest)? {
                 Found::End => Ok(Command::SessionAttach { table }),
-                _ => Err(Stop::Fault(misfit_at(rest))),
+                _ => Err(TokenError::Fault(misfit_at(rest))),
             },
-            _ => Err(Stop::Fault(misfit_at(line))),
+            _ => Err(TokenError::Fault(misfit_at(line))),
         },
-        _ => Err(Stop::Fault(misfit_at(line))),
+        _ => Err(TokenError::Fault(misfit_at(line))),
     }
 }

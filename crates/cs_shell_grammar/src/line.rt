@@ -3,14 +3,14 @@ ghost use Rattle.std.specs.Prelude.{◌≡◌, ◌↔◌, ◌∷◌, [], Some, I
 ghost use Rattle.cs_shell_grammar.specs.Commands.{CommandData, command_of};
 ghost use Rattle.cs_shell_grammar.specs.Lines.{IsNoCommand, IsNothing, RefusesLine, Spelled};
 ghost use Rattle.cs_shell_tokens.specs.Words.{words_of};
-ghost use Rattle.cs_shell_tokens.specs.Stops.{Reads};
+ghost use Rattle.cs_shell_tokens.specs.Faults.{Reads};
 ghost use Rattle.cs_shell_grammar.specs.LineReading.{begins_dot, line_in};
 
 use crate::command::Command;
 use crate::dot::dot_line;
 use crate::fault::{LineFault, SyntaxFault};
 use crate::statement::statement;
-use cs_shell_tokens::{Stop, column, next_word};
+use cs_shell_tokens::{TokenError, column, next_word};
 use std::alloc::Global;
 
 /// Returns the command of a line, or None if the line is blank or a comment. The line has no line feed.
@@ -32,10 +32,10 @@ pub fn parse_line(alloc: Global, line: &str) -> Result<Option<Command>, LineFaul
     }
     match read_line(alloc, line) {
         Ok(command) => Ok(Some(command)),
-        Err(Stop::Fault(misfit)) => Err(LineFault::Fault(SyntaxFault {
+        Err(TokenError::Fault(misfit)) => Err(LineFault::Fault(SyntaxFault {
             column: column(line, misfit),
         })),
-        Err(Stop::NoMemory) => Err(LineFault::NoMemory),
+        Err(TokenError::NoMemory) => Err(LineFault::NoMemory),
     }
 }
 
@@ -78,7 +78,7 @@ fn has_dot(word: &[u8]) -> bool
 
 /// Returns the command of a line that is neither blank nor a comment.
 #[tactic(auto, unfolding(crate::specs::LineReading::line_in))]
-fn read_line(alloc: Global, line: &[u8]) -> Result<Command, Stop>
+fn read_line(alloc: Global, line: &[u8]) -> Result<Command, TokenError>
     ensures { Reads result command_of (line_in line.now) }
 {
     if is_dot_line(line) {

@@ -17,8 +17,8 @@ use Rattle.cs_session.specs.declared.fault.SessionFault.{SessionFault}
 use Rattle.cs_session.specs.declared.fault.SessionFault.TheVariants as session
 use Rattle.cs_session.specs.Faults as sessions
 use Rattle.cs_shell_columns.specs.declared.fault.UnknownColumn.{UnknownColumn as NoColumn}
-use Rattle.cs_files.specs.declared.fault.PrintFault.{PrintFault}
-use Rattle.cs_files.specs.declared.fault.PrintFault.TheVariants as print
+use Rattle.cs_files.specs.declared.fault.PrintError.{PrintError}
+use Rattle.cs_files.specs.declared.fault.PrintError.TheVariants as print
 use Rattle.cs_files.specs.declared.fault.FileFault.{FileFault}
 use Rattle.cs_files.specs.declared.fault.FileFault.TheVariants as file
 use Rattle.cs_files.specs.Faults as files
@@ -153,7 +153,7 @@ abbrev pub of_read : OrNoMemory ReadFault → Refusal
 of_read (tool.Fault fault) = Read fault
 of_read tool.NoMemory = NoMemory
 
-abbrev pub of_print : PrintFault → Refusal
+abbrev pub of_print : PrintError → Refusal
 of_print (print.Read error) = of_read error
 of_print (print.Output fault) = Output fault
 

@@ -6,10 +6,10 @@ ghost use Rattle.cs_shell_replies.specs.ErrorLines.{of_store, of_apply, of_sessi
 ghost use Rattle.cs_shell_replies.specs.declared.refusal.Refusal.TheVariants as refusal;
 
 use cs_apply::{ApplyFault, Conflict};
-use cs_files::{FileFault, OutputFault, PrintFault, ToolFault};
+use cs_files::{FileFault, OutputFault, PrintError, ToolFault};
 use cs_rows::StoreError;
 use cs_session::SessionFault;
-use cs_shell_columns::{ColumnFault, UnknownColumn};
+use cs_shell_columns::{ColumnError, UnknownColumn};
 use cs_shell_grammar::{LineFault, SyntaxFault};
 use cs_value::{Fault, NoMemory};
 use cs_wire::{ReadError, ReadFault};
@@ -209,13 +209,13 @@ impl From<ReadError> for Refusal {
     }
 }
 
-impl From<PrintFault> for Refusal {
+impl From<PrintError> for Refusal {
     ghost from_gives = { λ fault r. r ≡ of_print fault };
 
-    fn from(fault: PrintFault) -> Refusal {
+    fn from(fault: PrintError) -> Refusal {
         match fault {
-            PrintFault::Read(error) => Refusal::from(error),
-            PrintFault::Output(fault) => Refusal::from(fault),
+            PrintError::Read(error) => Refusal::from(error),
+            PrintError::Output(fault) => Refusal::from(fault),
         }
     }
 }
@@ -268,13 +268,13 @@ impl From<SessionFault> for Refusal {
     }
 }
 
-impl From<ColumnFault> for Refusal {
+impl From<ColumnError> for Refusal {
     ghost from_gives = { λ fault r. r ≡ of_column fault };
 
-    fn from(fault: ColumnFault) -> Refusal {
+    fn from(fault: ColumnError) -> Refusal {
         match fault {
-            ColumnFault::Fault(_) => Refusal::UnknownColumn,
-            ColumnFault::NoMemory => Refusal::NoMemory,
+            ColumnError::Fault(_) => Refusal::UnknownColumn,
+            ColumnError::NoMemory => Refusal::NoMemory,
         }
     }
 }

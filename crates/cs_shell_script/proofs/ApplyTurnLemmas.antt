@@ -34,7 +34,7 @@ use Rattle.cs_session.specs.Recording.{RecordsApply, RefusesApply}
 use Rattle.cs_shell_replies.specs.ErrorLines.{of_apply, of_session, of_read}
 use Rattle.cs_shell_replies.specs.Replies.{Reply, Reported, Refused}
 use Rattle.cs_shell_replies.specs.Report.{told_of}
-use Rattle.cs_shell_script.specs.Script.{ApplyGives, RevertGives, not_applied, reverted, recorded, unread}
+use Rattle.cs_shell_script.specs.LineAnswers.{ApplyGives, RevertGives, not_applied, reverted, recorded, unread}
 use Rattle.cs_shell_script.specs.ShellState.{SlotMap, ShellState}
 use Rattle.cs_shell_script.specs.Works.{Gave, Works, seen, seen_table}
 use Rattle.cs_shell_script.proofs.TurnLemmas.{turns_done, turns_weaker, or_weaker, works_refused, works_still, no_memory, unable_as, resource_of_apply, resource_of_session}

@@ -17,8 +17,8 @@ use Rattle.cs_shell_grammar.specs.Lines.{RefusesLine, Spelled}
 use Rattle.cs_shell_replies.specs.declared.refusal.Refusal.TheVariants.{NoMemory, EmptySlot}
 use Rattle.cs_shell_replies.specs.ErrorLines.{of_line}
 use Rattle.cs_shell_replies.specs.Replies.{Reply, Refused}
-use Rattle.cs_shell_script.specs.Script.{SlotsGive, LineGives, malformed, answered, unanswered, CreateGives, EditGives, UpdateGives, DeleteGives, SelectGives, ApplyGives, ByKind, RevertGives, WithSession, OpenGives, AttachGives, ChangesetGives, IsEmptyGives, UndoGives, CloseGives}
-use Rattle.cs_shell_script.specs.Script.{CommandGives, created, inserts, updates, deletes, selects, on_slots, applies, reverts, opens, attaches, changes, tells_empty, undoes, closes}
+use Rattle.cs_shell_script.specs.LineAnswers.{SlotsGive, LineGives, malformed, answered, unanswered, CreateGives, EditGives, UpdateGives, DeleteGives, SelectGives, ApplyGives, ByKind, RevertGives, WithSession, OpenGives, AttachGives, ChangesetGives, IsEmptyGives, UndoGives, CloseGives}
+use Rattle.cs_shell_script.specs.LineAnswers.{CommandGives, created, inserts, updates, deletes, selects, on_slots, applies, reverts, opens, attaches, changes, tells_empty, undoes, closes}
 use Rattle.cs_shell_script.specs.ShellState.{SlotMap, ShellState}
 use Rattle.cs_shell_script.specs.Works.{OrUnable, Gave, GaveOn, Works, WorksOn, IsHere, seen}
 use Rattle.cs_shell_script.proofs.TurnLemmas.{turns_still, turns_weaker, or_weaker}

@@ -18,8 +18,8 @@ use Rattle.cs_shell_grammar.specs.Commands.{Load, Hex, Invert, Concat, Dump, IsS
 use Rattle.cs_shell_grammar.specs.Lines.{words_of, Spelled}
 use Rattle.cs_shell_replies.specs.Replies.{Silent, Text as Printed, Dumped, Refused}
 use Rattle.cs_shell_script.specs.ShellState.{SlotMap, ShellState}
-use Rattle.cs_shell_script.specs.Script.{SlotsGive, loaded, no_hex, shown, nothing_to_show, inverted, not_inverted}
-use Rattle.cs_shell_script.specs.Script.{nothing_to_invert, joined, dumped, on_slots, LineGives, answered, not_text}
+use Rattle.cs_shell_script.specs.LineAnswers.{SlotsGive, loaded, no_hex, shown, nothing_to_show, inverted, not_inverted}
+use Rattle.cs_shell_script.specs.LineAnswers.{nothing_to_invert, joined, dumped, on_slots, LineGives, answered, not_text}
 use Rattle.cs_files.proofs.Examples.{insert_file_inverts, insert_file_joins_update, later_file}
 use Rattle.cs_shell_replies.specs.declared.refusal.Refusal.TheVariants.{Read, EmptySlot, BadHex, LineText}
 

@@ -11,7 +11,7 @@ use Rattle.cs_shell_script.specs.declared.workspace.Workspace.{Workspace}
 use Rattle.cs_shell_replies.specs.declared.refusal.Refusal.{Refusal}
 use Rattle.cs_shell_replies.specs.Replies.{Reply, Refused}
 use Rattle.cs_shell_script.specs.Runs.{LinesGive, Runs}
-use Rattle.cs_shell_script.specs.Script.{IsResource, LineGives, unanswered}
+use Rattle.cs_shell_script.specs.LineAnswers.{IsResource, LineGives, unanswered}
 use Rattle.cs_shell_script.specs.Meant.{LineSays, meant}
 use Rattle.cs_shell_script.specs.ShellState.{ShellState}
 use Rattle.cs_shell_script.specs.StoreRuns.{HasReply, IsSettled, RunsScript, Shows, beginning}
@@ -19,7 +19,7 @@ use Rattle.cs_store.specs.Turns.{AreSame, Known, Stands, TurnsBetween}
 use Rattle.cs_shell_script.specs.Works.{GaveOn, OrUnable, WorksOn, IsHere, seen, seen_session}
 use Rattle.cs_shell_script.specs.Shells.{Answers, RunsShell}
 use Rattle.cs_shell_script.proofs.RunLemmas.{Runs-answered}
-use Rattle.cs_shell_script.proofs.TurnLemmas.{between_settled, between_still, between_then, between_weaker, known_shows, unable_as}
+use Rattle.cs_shell_script.proofs.TurnLemmas.{between_at_rest, between_still, between_then, between_weaker, known_shows, unable_as}
 
 -- a line does what the line does that it stands for
 pub line_meant : (old new : sqlite.State) (before after : Workspace) (line plain : List ℕ) (reply : Reply) → meant line ≡ plain
@@ -28,22 +28,22 @@ pub line_meant : (old new : sqlite.State) (before after : Workspace) (line plain
 line_meant old new before after line plain reply same works =
     subst (λ (l : List ℕ). WorksOn old new before.slots after.slots before.session after.session (λ state. LineGives state l) reply) (sym same) works
 
--- a line before which the store refused to be settled
-pub line_unsettled : (old new : sqlite.State) (was is : Bool) (work : Workspace) (line : List ℕ) (why : Refusal) → IsResource why
+-- a line before which the store refused to be at rest
+pub line_not_at_rest : (old new : sqlite.State) (was is : Bool) (work : Workspace) (line : List ℕ) (why : Refusal) → IsResource why
     → ((rests : Bool) → TurnsBetween old new (Known (rests || was) old) (Known (rests || is) new) AreSame) → Answers old new was is work work line (Refused why)
-line_unsettled old new was is work line why resource turns = λ rests.
+line_not_at_rest old new was is work line why resource turns = λ rests.
     between_weaker (Known (rests || was) old) (Known (rests || is) new) AreSame (GaveOn work.slots work.slots work.session work.session (λ state. LineSays state line) (Refused why)) old new
     (λ t u same. subst (λ (s : State). GaveOn work.slots work.slots work.session work.session (λ state. LineSays state line) (Refused why) t s) (sym same)
     (λ here. (here, unable_as (λ state. LineSays state line) (seen t work.slots work.session) why resource))) (turns rests)
 
--- a line over a store that is settled
-pub line_settled : (old mid new : sqlite.State) (was is : Bool) (before after : Workspace) (line : List ℕ) (reply : Reply) → is ≡ true
+-- a line over a store that is at rest
+pub line_at_rest : (old mid new : sqlite.State) (was is : Bool) (before after : Workspace) (line : List ℕ) (reply : Reply) → is ≡ true
     → ((rests : Bool) → TurnsBetween old mid (Known (rests || was) old) (Known (rests || is) mid) AreSame)
     → WorksOn mid new before.slots after.slots before.session after.session (λ state. LineSays state line) reply → Answers old new was is before after line reply
-line_settled old mid new was is before after line reply settled turns works = λ rests.
+line_at_rest old mid new was is before after line reply at_rest turns works = λ rests.
     between_then (Known (rests || was) old) (Known (rests || is) mid) (Known (rests || is) new) AreSame
     (GaveOn before.slots after.slots before.session after.session (λ state. LineSays state line) reply) (GaveOn before.slots after.slots before.session after.session (λ state. LineSays state line) reply) old mid new (turns rests)
-    (between_settled rests is (GaveOn before.slots after.slots before.session after.session (λ state. LineSays state line) reply) mid new settled works)
+    (between_at_rest rests is (GaveOn before.slots after.slots before.session after.session (λ state. LineSays state line) reply) mid new at_rest works)
     (λ t u v same work. subst (λ (s : State). GaveOn before.slots after.slots before.session after.session (λ state. LineSays state line) reply s v) same work)
 
 -- any line may be refused for memory or by the database
@@ -110,17 +110,17 @@ module _ {R W M : Type 0} (remaining : R → Option (List ℕ)) (contents : W �
       (lines_turn gives conn known work answers some.lines some.replies start final some.given)
 
 -- a script begins with no slot and no session
-pub begins : {R W : Type 0} (remaining : R → Option (List ℕ)) (contents : W → Option (List ℕ)) (status : Status) (settled : Bool) (old new : sqlite.State) (work after : Workspace) (a b : Told R) (x y : Told W)
-    → work.slots ≡ empty → work.session ≡ None → TurnsBetween old new (Shows old) (Known settled new) (RunsShell remaining contents status work after a b x y)
+pub begins : {R W : Type 0} (remaining : R → Option (List ℕ)) (contents : W → Option (List ℕ)) (status : Status) (at_rest : Bool) (old new : sqlite.State) (work after : Workspace) (a b : Told R) (x y : Told W)
+    → work.slots ≡ empty → work.session ≡ None → TurnsBetween old new (Shows old) (Known at_rest new) (RunsShell remaining contents status work after a b x y)
     → HasCleanDisk new → (t : State) → Shows old t → RunsScript remaining contents status a b x y t new
-begins remaining contents status settled old new work after a b x y slots session turns clean t shows =
+begins remaining contents status at_rest old new work after a b x y slots session turns clean t shows =
     let done = turns.done clean t shows in
     let here : IsHere t work.session = rw session tt in
     let start : seen t work.slots work.session ≡ beginning t = λ i. record { tables = t; slots = slots i; session = seen_session t (session i) } in
     record {
       last = seen done.0 after.slots after.session;
       runs = subst (λ (s : ShellState). Runs remaining contents LineSays status s (seen done.0 after.slots after.session) a b x y) start (done.2 here);
-      shows = known_shows settled new done.0 done.1;
+      shows = known_shows at_rest new done.0 done.1;
     }
 
 -- a store that was at rest is at rest

@@ -31,9 +31,9 @@ use Rattle.cs_shell_grammar.specs.Commands.{CommandData, AssignmentData}
 use Rattle.cs_shell_columns.specs.Rows.{with_assigned}
 use Rattle.cs_shell_replies.specs.Replies.{Reply}
 use Rattle.cs_shell_script.specs.ShellState.{SessionTable, SessionTables, ShellState, touch, written_to, put_back}
-use Rattle.cs_shell_script.specs.Script.{CreateGives, unknown_key, declared, not_declared, declared_schema, EditGives, UpdateGives, not_updated, no_row, updates_row, DeleteGives, not_deleted, deletes_row}
-use Rattle.cs_shell_script.specs.Script.{ApplyGives, applied, not_applied, ByKind, RevertGives, reverted, recorded, unread, WithSlot, with_session, WithSession, OpenGives, AttachGives, attached, already, no_table, ChangesetGives, IsEmptyGives, UndoGives, CloseGives}
-use Rattle.cs_shell_script.specs.Script.{CommandGives, created, inserts, updates, deletes, selects, on_slots, applies, reverts, opens, attaches, changes, tells_empty, undoes, closes, unable, LineGives, not_text, nothing, malformed, answered, unanswered}
+use Rattle.cs_shell_script.specs.LineAnswers.{CreateGives, unknown_key, declared, not_declared, declared_schema, EditGives, UpdateGives, not_updated, no_row, updates_row, DeleteGives, not_deleted, deletes_row}
+use Rattle.cs_shell_script.specs.LineAnswers.{ApplyGives, applied, not_applied, ByKind, RevertGives, reverted, recorded, unread, WithSlot, with_session, WithSession, OpenGives, AttachGives, attached, already, no_table, ChangesetGives, IsEmptyGives, UndoGives, CloseGives}
+use Rattle.cs_shell_script.specs.LineAnswers.{CommandGives, created, inserts, updates, deletes, selects, on_slots, applies, reverts, opens, attaches, changes, tells_empty, undoes, closes, unable, LineGives, not_text, nothing, malformed, answered, unanswered}
 use Rattle.cs_shell_script.specs.Net.{IsTracked, AreTracked, HasNet, LinesLead, NetOfTouched}
 use Rattle.cs_shell_script.proofs.NetLemmas.{OnlyWrites, touched_tracked, same_tracked, back_tracked, new_tracked}
 
@@ -241,14 +241,14 @@ edit_net old new (Err error) reply only is gives = same_net old new is gives.1
 
 update_net : (old new : ShellState) (name : List ℕ) (sets conditions : List AssignmentData) (reply : Reply) → HasNet old → UpdateGives old name sets conditions reply new → HasNet new
 update_net old new name sets conditions reply is (not_updated why finds) = is
-update_net old new name sets conditions reply is (no_row place finds none) = is
-update_net old new name sets conditions reply is (updates_row place row answer next finds there gives) =
-    edit_net old next (updated old.tables name place.key (with_assigned sets place.schema.columns row)) answer (updated_only old.tables name place.key (with_assigned sets place.schema.columns row)) is gives
+update_net old new name sets conditions reply is (no_row target finds none) = is
+update_net old new name sets conditions reply is (updates_row target row answer next finds there gives) =
+    edit_net old next (updated old.tables name target.key (with_assigned sets target.schema.columns row)) answer (updated_only old.tables name target.key (with_assigned sets target.schema.columns row)) is gives
 
 delete_net : (old new : ShellState) (name : List ℕ) (conditions : List AssignmentData) (reply : Reply) → HasNet old → DeleteGives old name conditions reply new → HasNet new
 delete_net old new name conditions reply is (not_deleted why finds) = is
-delete_net old new name conditions reply is (deletes_row place answer next finds gives) =
-    edit_net old next (deleted old.tables name place.key) answer (deleted_only old.tables name place.key) is gives
+delete_net old new name conditions reply is (deletes_row target answer next finds gives) =
+    edit_net old next (deleted old.tables name target.key) answer (deleted_only old.tables name target.key) is gives
 
 apply_net : (old : ShellState) (chooses : Handler) (noop : Noop) (file : List ℕ) (direction : Direction) (new : ShellState) (reply : Reply) → HasNet old → ApplyGives old chooses noop file direction reply new → HasNet new
 apply_net old chooses noop file direction new reply is (applied summary tables done) =

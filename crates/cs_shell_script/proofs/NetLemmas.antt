@@ -128,7 +128,7 @@ with_keys_once keys (key ∷ more) once = at (list_any (λ k. bytes_eq k key) ke
 
 contains_filter : (p : List ℕ → Bool) (keys : List (List ℕ)) (key : List ℕ) → Contains keys key → p key ≡ true → Contains (filter p keys) key
 contains_filter p [] key has passes = absurd (omega (arith, has.1))
-contains_filter p (k ∷ keys) key has passes = by_place has.0 has.1 has.2 (λ rest. contains_filter p keys key rest passes)
+contains_filter p (k ∷ keys) key has passes = by_index has.0 has.1 has.2 (λ rest. contains_filter p keys key rest passes)
   where
     more : (b : Bool) → Contains (filter p keys) key → Contains (cond b (k ∷ filter p keys) (filter p keys)) key
     more true rest = (suc rest.0, (omega (arith, rest.1)), rest.2)
@@ -138,9 +138,9 @@ contains_filter p (k ∷ keys) key has passes = by_place has.0 has.1 has.2 (λ r
     here same true is = (zero, (omega arith), same)
     here same false is = absurd (true≢false (sym passes ∙ ap p (sym same) ∙ is))
 
-    by_place : (i : ℕ) → i < length (k ∷ keys) → get_or (k ∷ keys) i key ≡ key → (Contains keys key → Contains (filter p keys) key) → Contains (filter p (k ∷ keys)) key
-    by_place zero lt same rest = here same (p k) refl
-    by_place (suc i) lt same rest = more (p k) (rest (i, (omega arith), same))
+    by_index : (i : ℕ) → i < length (k ∷ keys) → get_or (k ∷ keys) i key ≡ key → (Contains keys key → Contains (filter p keys) key) → Contains (filter p (k ∷ keys)) key
+    by_index zero lt same rest = here same (p k) refl
+    by_index (suc i) lt same rest = more (p k) (rest (i, (omega arith), same))
 
 zipped : (net : List ℕ → Option Entry) (keys : List (List ℕ)) → AllZip (λ key entry. net key ≡ Some entry) (filter (λ key. is_some (net key)) keys) (filter_map net keys)
 zipped net [] = tt

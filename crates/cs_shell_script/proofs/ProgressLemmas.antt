@@ -8,7 +8,7 @@ use Rattle.std.specs.Io.KnownBytes.{Appends}
 use Rattle.std.proofs.KnownBytes.{Appends-nil, Appends-trans}
 use Rattle.cs_value.proofs.ListLemmas.{AllByRecursion-push}
 use Rattle.cs_shell_script.specs.declared.reader.LineReader.{LineReader}
-use Rattle.cs_shell_script.specs.declared.script.Script.{Script}
+use Rattle.cs_shell_script.specs.declared.script.RunningScript.{RunningScript}
 use Rattle.cs_file_texts.specs.declared.told.Told.{Told}
 use Rattle.cs_files.specs.Told.{known}
 use Rattle.cs_files.specs.Calls.{AppendsFront}
@@ -49,8 +49,8 @@ push_nonempty : (bytes : List ℕ) (b : ℕ) → bytes ++ b ∷ [] ≢ []
 push_nonempty bytes b is = absurd (omega (arith, ap length is, length-append bytes (b ∷ [])))
 
 -- what was run, where nothing is read
-pub Progress-start : {M : Type 0} (gives : M → List ℕ → Reply → M → Type 0) (machine : M) (script : Script) (out : Option (List ℕ)) → IsFresh script → Progress gives machine [] out out (running machine script)
-Progress-start gives machine script out fresh = record {
+pub Progress-start : {M : Type 0} (gives : M → List ℕ → Reply → M → Type 0) (interpreter : M) (script : RunningScript) (out : Option (List ℕ)) → IsFresh script → Progress gives interpreter [] out out (running interpreter script)
+Progress-start gives interpreter script out fresh = record {
   lines = [];
   last = [];
   replies = [];
@@ -86,7 +86,7 @@ pub Advances-all : {M W : Type 0} (contents : W → Option (List ℕ)) (gives : 
 Advances-all contents gives a b x y bytes i past p = subst (Advances contents gives a b x y) (take_all i bytes past) p
 
 -- a byte that ends no line
-pub Advances-byte : {M W : Type 0} (contents : W → Option (List ℕ)) (gives : M → List ℕ → Reply → M → Type 0) (old new : Running M) (out : Told W) (b : ℕ) → b ≢ 10 → new.machine ≡ old.machine → new.has_refused ≡ old.has_refused
+pub Advances-byte : {M W : Type 0} (contents : W → Option (List ℕ)) (gives : M → List ℕ → Reply → M → Type 0) (old new : Running M) (out : Told W) (b : ℕ) → b ≢ 10 → new.interpreter ≡ old.interpreter → new.has_refused ≡ old.has_refused
     → Adds old.line new.line b → Advances contents gives old new out out (b ∷ [])
 Advances-byte contents gives old new out b apart same refused adds = record {
   progress = λ start front first p. record {
@@ -133,7 +133,7 @@ Advances-feed contents gives old new (Ok x) before after e = record {
     last = [];
     replies = p.replies ++ e.reply ∷ [];
     splits = Splits-feed front p.lines p.last p.splits;
-    given = LinesGive-push gives start old.machine new.machine p.lines p.replies p.last e.reply p.given (e.given p.last p.holds);
+    given = LinesGive-push gives start old.interpreter new.interpreter p.lines p.replies p.last e.reply p.given (e.given p.last p.holds);
     written = written_more first (known contents before) (known contents after) p.replies e.reply p.written e.writes.wrote;
     has_refused = refused_more p.replies e.reply old.has_refused new.has_refused p.has_refused e.has_refused;
     holds = λ _. e.at_start.0;
@@ -156,7 +156,7 @@ Breaks-feed contents gives old new (Err x) before after e = record {
       lines = p.lines ++ p.last ∷ [];
       last = [];
       splits = Splits-feed front p.lines p.last p.splits;
-      given = LinesGive-push gives start old.machine new.machine p.lines p.replies p.last e.reply p.given (e.given p.last p.holds);
+      given = LinesGive-push gives start old.interpreter new.interpreter p.lines p.replies p.last e.reply p.given (e.given p.last p.holds);
     };
     written = front_more first (known contents before) (known contents after) p.replies e.reply p.written e.writes.wrote;
   };
@@ -183,8 +183,8 @@ Breaks-more contents gives a b c x y z bytes i within p q = record {
       append_assoc front (take i bytes) (get_or bytes i 0 ∷ []) ∙ ap (λ l. front ++ l) (sym (take_more bytes i 0 within)) in
       let whole : (front ++ take (i + 1) bytes) ++ drop (i + 1) bytes ≡ front ++ bytes =
       append_assoc front (take (i + 1) bytes) (drop (i + 1) bytes) ∙ ap (λ l. front ++ l) (take-append-drop (i + 1) bytes) in
-      subst (λ l. Broken gives start l first (known contents z) c.machine) (ap (λ l. l ++ drop (i + 1) bytes) text ∙ whole)
-      (Broken-longer gives start _ (drop (i + 1) bytes) first (known contents z) c.machine (q.broken start (front ++ take i bytes) first (p.progress start front first h)));
+      subst (λ l. Broken gives start l first (known contents z) c.interpreter) (ap (λ l. l ++ drop (i + 1) bytes) text ∙ whole)
+      (Broken-longer gives start _ (drop (i + 1) bytes) first (known contents z) c.interpreter (q.broken start (front ++ take i bytes) first (p.progress start front first h)));
 }
 
 -- a last line that has a byte
@@ -207,14 +207,14 @@ last_some reader last begun holds lost none =
 -- the last line was answered, and the text with it
 last_answered : {M W X E : Type 0} (contents : W → Option (List ℕ)) (gives : M → List ℕ → Reply → M → Type 0) (old new : Running M) (result : Result X E) (before after : Told W)
     → EndsLine contents gives old new result before after → HasBegun old.line → (start : M) (text : List ℕ) (first : Option (List ℕ)) → (p : Progress gives start text first (known contents before) old)
-    → (e : Reply) → ((line : List ℕ) → Holds old.line line → gives old.machine line e new.machine) → AnswersAll gives start text (p.replies ++ e ∷ []) new.machine
+    → (e : Reply) → ((line : List ℕ) → Holds old.line line → gives old.interpreter line e new.interpreter) → AnswersAll gives start text (p.replies ++ e ∷ []) new.interpreter
 last_answered contents gives old new result before after ends begun start text first p e given = record {
   lines = p.lines;
   last = p.last;
   splits = p.splits;
-  given = subst (λ ls. LinesGive gives start (p.lines ++ ls) (p.replies ++ e ∷ []) new.machine)
+  given = subst (λ ls. LinesGive gives start (p.lines ++ ls) (p.replies ++ e ∷ []) new.interpreter)
       (sym (unended_some p.last (last_some old.line p.last begun p.holds p.lost)))
-      (LinesGive-push gives start old.machine new.machine p.lines p.replies p.last e p.given (given p.last p.holds));
+      (LinesGive-push gives start old.interpreter new.interpreter p.lines p.replies p.last e p.given (given p.last p.holds));
 }
 
 pub Finishes-ended : {M W X E : Type 0} (contents : W → Option (List ℕ)) (gives : M → List ℕ → Reply → M → Type 0) (old new : Running M) (result : Result X E) (before after : Told W)
@@ -261,7 +261,7 @@ Finishes-at_once contents gives script out none = record {
       lines = p.lines;
       last = p.last;
       splits = p.splits;
-      given = subst (λ ls. LinesGive gives start ls p.replies script.machine)
+      given = subst (λ ls. LinesGive gives start ls p.replies script.interpreter)
           (sym (ap (λ l. p.lines ++ unended l) (no_line script.line p.last none p.holds) ∙ append-nil p.lines)) p.given;
     },
     p.written,

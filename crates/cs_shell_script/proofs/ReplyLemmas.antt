@@ -14,7 +14,7 @@ use Rattle.cs_files.specs.Files.{JoinFails}
 use Rattle.cs_shell_grammar.specs.Commands.{Load, Invert, Concat, Dump}
 use Rattle.cs_shell_replies.specs.ErrorLines.{of_hex, of_read, of_files}
 use Rattle.cs_shell_replies.specs.Replies.{Refused}
-use Rattle.cs_shell_script.specs.Script.{SlotsGive, no_hex, not_inverted, not_joined, not_dumped, unable}
+use Rattle.cs_shell_script.specs.LineAnswers.{SlotsGive, no_hex, not_inverted, not_joined, not_dumped, unable}
 use Rattle.cs_shell_script.specs.ShellState.{SlotMap}
 
 -- digits that are not decoded

@@ -5,7 +5,7 @@ use Rattle.std.specs.Io.KnownBytes.{Appends, Consumes, Keeps, IsAtEnd}
 use Rattle.std.proofs.KnownBytes.{Appends-trans, Consumes-trans}
 use Rattle.std.proofs.lemmas.List.{append_assoc, length-drop, length-take-le, take-append-drop}
 use Rattle.cs_shell_replies.specs.declared.refusal.Refusal.TheVariants.{ScriptTooLong}
-use Rattle.cs_shell_script.specs.declared.script.Script.{Script}
+use Rattle.cs_shell_script.specs.declared.script.RunningScript.{RunningScript}
 use Rattle.cs_shell_script.specs.declared.script.Status.{Status}
 use Rattle.cs_shell_script.specs.declared.script.Status.TheVariants.{Done, LinesRefused, TooLong, InputFault, OutputFault}
 use Rattle.cs_file_texts.specs.declared.told.Told.{Told}
@@ -22,14 +22,14 @@ Consumes-nothing None = tt
 Consumes-nothing (Some text) = refl
 
 -- nothing is read yet
-pub HasRead-start : {M R W : Type 0} (remaining : R → Option (List ℕ)) (contents : W → Option (List ℕ)) (gives : M → List ℕ → Reply → M → Type 0) (machine : M) (script : Script) (input : Told R) (out : Told W) → IsFresh script
-    → HasRead remaining contents gives (running machine script) (running machine script) input input out out 0
-HasRead-start remaining contents gives machine script input out fresh = record {
+pub HasRead-start : {M R W : Type 0} (remaining : R → Option (List ℕ)) (contents : W → Option (List ℕ)) (gives : M → List ℕ → Reply → M → Type 0) (interpreter : M) (script : RunningScript) (input : Told R) (out : Told W) → IsFresh script
+    → HasRead remaining contents gives (running interpreter script) (running interpreter script) input input out out 0
+HasRead-start remaining contents gives interpreter script input out fresh = record {
   text = [];
   consumed = Consumes-nothing (known remaining input);
   counted = refl;
   within = omega arith;
-  progress = Progress-start gives machine script (known contents out) fresh;
+  progress = Progress-start gives interpreter script (known contents out) fresh;
 }
 
 -- a piece more is read and run
@@ -43,7 +43,7 @@ HasRead-more remaining contents gives old mid new a b c x y z count piece r cons
       consumed = Consumes-trans (known remaining a) (known remaining b) (known remaining c) r.text piece r.consumed consumed;
       counted = length-append r.text piece ∙ ap (λ n. n + length piece) counted;
       within = omega arith;
-      progress = advances.progress old.machine r.text (known contents x) r.progress;
+      progress = advances.progress old.interpreter r.text (known contents x) r.progress;
     }
 
 -- the input is at its end
@@ -76,7 +76,7 @@ Consumes-kept (Some l) (Some m) (Some n) text p q = p ∙ ap (λ k. text ++ k) (
 -- a read fails
 pub Runs-input : {M R W : Type 0} (remaining : R → Option (List ℕ)) (contents : W → Option (List ℕ)) (gives : M → List ℕ → Reply → M → Type 0) (old new : Running M) (a b c : Told R) (x y : Told W) (count : ℕ)
     → HasRead remaining contents gives old new a b x y count → Keeps (known remaining b) (known remaining c) → IsTrue (has_failed c)
-    → Runs remaining contents gives InputFault old.machine new.machine a c x y
+    → Runs remaining contents gives InputFault old.interpreter new.interpreter a c x y
 Runs-input remaining contents gives old new a b c x y count r kept failed =
     let counted = r.counted in
     let within = r.within in record {
@@ -96,17 +96,17 @@ Runs-input remaining contents gives old new a b c x y count r kept failed =
 -- a write fails for a line of a piece that was read
 pub Runs-broken : {M R W : Type 0} (remaining : R → Option (List ℕ)) (contents : W → Option (List ℕ)) (gives : M → List ℕ → Reply → M → Type 0) (old mid new : Running M) (a b c : Told R) (x y z : Told W) (count : ℕ)
     (piece bytes more : List ℕ) → HasRead remaining contents gives old mid a b x y count → Consumes (known remaining b) (known remaining c) piece → length piece ≤ SCRIPT_LIMIT - count + 1 → piece ≡ bytes ++ more → length bytes ≤ SCRIPT_LIMIT - count
-    → Breaks contents gives mid new y z bytes → IsTrue (has_failed z) → Runs remaining contents gives OutputFault old.machine new.machine a c x z
+    → Breaks contents gives mid new y z bytes → IsTrue (has_failed z) → Runs remaining contents gives OutputFault old.interpreter new.interpreter a c x z
 Runs-broken remaining contents gives old mid new a b c x y z count piece bytes more r consumed room whole within_limit breaks failed =
     let counted = r.counted in
     let within = r.within in
-    let broken = breaks.broken old.machine r.text (known contents x) r.progress in
+    let broken = breaks.broken old.interpreter r.text (known contents x) r.progress in
     let parts = sym (length-append r.text bytes) ∙ ap length broken.whole ∙ length-append broken.front broken.rest in record {
       text = r.text ++ piece;
       consumed = Consumes-trans (known remaining a) (known remaining b) (known remaining c) r.text piece r.consumed consumed;
       bounded = omega (arith, length-append r.text piece);
       at_end = tt;
-      ended = subst (EndsUnwritten contents gives old.machine new.machine x z (known remaining c))
+      ended = subst (EndsUnwritten contents gives old.interpreter new.interpreter x z (known remaining c))
           (sym (ap (λ l. r.text ++ l) whole ∙ sym (append_assoc r.text bytes more) ∙ ap (λ l. l ++ more) broken.whole ∙ append_assoc broken.front broken.rest more))
           (at_line broken.front (broken.rest ++ more) broken.replies (omega arith) broken.answers broken.written);
       flagged = failed;
@@ -114,7 +114,7 @@ Runs-broken remaining contents gives old mid new a b c x y z count piece bytes m
 
 -- what a byte too many says of the text
 overruns : {M W : Type 0} (contents : W → Option (List ℕ)) (gives : M → List ℕ → Reply → M → Type 0) (start : M) (new : Running M) (first after : Option (List ℕ)) (text piece : List ℕ) (left : ℕ)
-    → (p : Progress gives start (text ++ take left piece) first after new) → length text + left ≡ SCRIPT_LIMIT → left < length piece → Overruns gives start new.machine (text ++ piece) p.replies
+    → (p : Progress gives start (text ++ take left piece) first after new) → length text + left ≡ SCRIPT_LIMIT → left < length piece → Overruns gives start new.interpreter (text ++ piece) p.replies
 overruns contents gives start new first after text piece left p full over =
     let taken = length-take-le left piece (omega arith) in
     let passed = length-drop left piece in record {
@@ -130,18 +130,18 @@ overruns contents gives start new first after text piece left p full over =
 pub Runs-overrun : {M R W : Type 0} (remaining : R → Option (List ℕ)) (contents : W → Option (List ℕ)) (gives : M → List ℕ → Reply → M → Type 0) (old mid new : Running M) (a b c : Told R) (x y z w : Told W) (count : ℕ)
     (piece : List ℕ) → HasRead remaining contents gives old mid a b x y count → Consumes (known remaining b) (known remaining c) piece → length piece ≤ SCRIPT_LIMIT - count + 1
     → SCRIPT_LIMIT - count < length piece → Advances contents gives mid new y z (take (SCRIPT_LIMIT - count) piece) → Appends (known contents z) (known contents w) (refusal_text ScriptTooLong)
-    → Runs remaining contents gives TooLong old.machine new.machine a c x w
+    → Runs remaining contents gives TooLong old.interpreter new.interpreter a c x w
 Runs-overrun remaining contents gives old mid new a b c x y z w count piece r consumed room over advances written =
     let counted = r.counted in
     let within = r.within in
-    let p = advances.progress old.machine r.text (known contents x) r.progress in record {
+    let p = advances.progress old.interpreter r.text (known contents x) r.progress in record {
       text = r.text ++ piece;
       consumed = Consumes-trans (known remaining a) (known remaining b) (known remaining c) r.text piece r.consumed consumed;
       bounded = omega (arith, length-append r.text piece);
       at_end = tt;
       ended = record {
         replies = p.replies;
-        overruns = overruns contents gives old.machine new (known contents x) (known contents z) r.text piece (SCRIPT_LIMIT - count) p (omega arith) over;
+        overruns = overruns contents gives old.interpreter new (known contents x) (known contents z) r.text piece (SCRIPT_LIMIT - count) p (omega arith) over;
         written = Appends-trans (known contents x) (known contents z) (known contents w) (replies_text p.replies) (refusal_text ScriptTooLong) p.written written;
       };
       flagged = tt;
@@ -151,16 +151,16 @@ Runs-overrun remaining contents gives old mid new a b c x y z w count piece r co
 pub Runs-overrun-broken : {M R W : Type 0} (remaining : R → Option (List ℕ)) (contents : W → Option (List ℕ)) (gives : M → List ℕ → Reply → M → Type 0) (old mid new : Running M) (a b c : Told R) (x y z w : Told W)
     (count : ℕ) (piece : List ℕ) → HasRead remaining contents gives old mid a b x y count → Consumes (known remaining b) (known remaining c) piece → length piece ≤ SCRIPT_LIMIT - count + 1
     → SCRIPT_LIMIT - count < length piece → Advances contents gives mid new y z (take (SCRIPT_LIMIT - count) piece) → AppendsFront (known contents z) (known contents w) (refusal_text ScriptTooLong)
-    → IsTrue (has_failed w) → Runs remaining contents gives OutputFault old.machine new.machine a c x w
+    → IsTrue (has_failed w) → Runs remaining contents gives OutputFault old.interpreter new.interpreter a c x w
 Runs-overrun-broken remaining contents gives old mid new a b c x y z w count piece r consumed room over advances written failed =
     let counted = r.counted in
     let within = r.within in
-    let p = advances.progress old.machine r.text (known contents x) r.progress in record {
+    let p = advances.progress old.interpreter r.text (known contents x) r.progress in record {
       text = r.text ++ piece;
       consumed = Consumes-trans (known remaining a) (known remaining b) (known remaining c) r.text piece r.consumed consumed;
       bounded = omega (arith, length-append r.text piece);
       at_end = tt;
-      ended = at_overrun (r.text ++ piece) p.replies (overruns contents gives old.machine new (known contents x) (known contents z) r.text piece (SCRIPT_LIMIT - count) p (omega arith) over)
+      ended = at_overrun (r.text ++ piece) p.replies (overruns contents gives old.interpreter new (known contents x) (known contents z) r.text piece (SCRIPT_LIMIT - count) p (omega arith) over)
           (AppendsFront-behind (known contents x) (known contents z) (known contents w) (replies_text p.replies) (refusal_text ScriptTooLong) p.written written);
       flagged = failed;
     }
@@ -168,12 +168,12 @@ Runs-overrun-broken remaining contents gives old mid new a b c x y z w count pie
 -- a text that is read and run, and whose last line is run
 pub Runs-finished : {M R W : Type 0} (remaining : R → Option (List ℕ)) (contents : W → Option (List ℕ)) (gives : M → List ℕ → Reply → M → Type 0) (old mid new : Running M) (a b : Told R) (x y z : Told W)
     → ReadsText remaining contents gives old mid a b x y → Finishes contents gives mid new y z
-    → Runs remaining contents gives (if new.has_refused then LinesRefused else Done) old.machine new.machine a b x z
+    → Runs remaining contents gives (if new.has_refused then LinesRefused else Done) old.interpreter new.interpreter a b x z
 Runs-finished remaining contents gives old mid new a b x y z r finishes =
     let counted = r.read.counted in
     let within = r.read.within in
-    let ended = finishes.answered old.machine r.read.text (known contents x) r.read.progress in
-    elim new.has_refused as (λ h. new.has_refused ≡ h → Runs remaining contents gives (if h then LinesRefused else Done) old.machine new.machine a b x z) [
+    let ended = finishes.answered old.interpreter r.read.text (known contents x) r.read.progress in
+    elim new.has_refused as (λ h. new.has_refused ≡ h → Runs remaining contents gives (if h then LinesRefused else Done) old.interpreter new.interpreter a b x z) [
       | true ↦ λ is. record {
         text = r.read.text;
         consumed = r.read.consumed;
@@ -194,11 +194,11 @@ Runs-finished remaining contents gives old mid new a b x y z r finishes =
 
 -- and a write fails for its last line
 pub Runs-unfinished : {M R W : Type 0} (remaining : R → Option (List ℕ)) (contents : W → Option (List ℕ)) (gives : M → List ℕ → Reply → M → Type 0) (old mid new : Running M) (a b : Told R) (x y z : Told W)
-    → ReadsText remaining contents gives old mid a b x y → Unfinished contents gives mid new y z → IsTrue (has_failed z) → Runs remaining contents gives OutputFault old.machine new.machine a b x z
+    → ReadsText remaining contents gives old mid a b x y → Unfinished contents gives mid new y z → IsTrue (has_failed z) → Runs remaining contents gives OutputFault old.interpreter new.interpreter a b x z
 Runs-unfinished remaining contents gives old mid new a b x y z r unfinished failed =
     let counted = r.read.counted in
     let within = r.read.within in
-    let ended = unfinished.answered old.machine r.read.text (known contents x) r.read.progress in record {
+    let ended = unfinished.answered old.interpreter r.read.text (known contents x) r.read.progress in record {
       text = r.read.text;
       consumed = r.read.consumed;
       bounded = omega arith;

@@ -19,7 +19,7 @@ use Rattle.cs_shell_replies.specs.ErrorLines.{refusal_text}
 use Rattle.cs_shell_replies.specs.Replies.{Reply, Silent, Text as Printed, Dumped, Refused, reply_text, replies_text}
 use Rattle.cs_shell_script.specs.ShellState.{ShellState}
 use Rattle.cs_shell_script.specs.StoreRuns.{beginning}
-use Rattle.cs_shell_script.specs.Script.{on_slots, LineGives, answered}
+use Rattle.cs_shell_script.specs.LineAnswers.{on_slots, LineGives, answered}
 use Rattle.cs_shell_script.specs.Runs.{HasNoFeed, AnswersAll, RunsInput}
 use Rattle.cs_value.specs.Quoting.{doubled}
 use Rattle.cs_files.specs.Texts.{literal, separated, field_text, header_text, entry_text, group_text}

@@ -40,7 +40,7 @@ use Rattle.cs_shell_replies.specs.ErrorLines.{of_store, of_session}
 use Rattle.cs_shell_replies.specs.Replies.{Reply, Silent, Reported, Refused}
 use Rattle.cs_shell_replies.specs.Report.{told_of}
 use Rattle.cs_shell_script.specs.ShellState.{SlotMap, SessionTable, ShellState, written_to, touch, net_count, put_back}
-use Rattle.cs_shell_script.specs.Script.{EditGives, ApplyGives, applied, not_applied, AttachGives, attached, already, no_table, UndoGives}
+use Rattle.cs_shell_script.specs.LineAnswers.{EditGives, ApplyGives, applied, not_applied, AttachGives, attached, already, no_table, UndoGives}
 use Rattle.cs_shell_script.specs.Works.{seen_table, seen_session, seen, IsHere, OrUnable}
 use Rattle.cs_shell_script.proofs.SeenLemmas.{seen_recorded, seen_same, seen_back, undo_count}
 use Rattle.cs_shell_script.proofs.TurnLemmas.{or_store, no_memory}

@@ -26,7 +26,7 @@ use Rattle.cs_shell_replies.specs.declared.refusal.Refusal.TheVariants as refusa
 use Rattle.cs_shell_replies.specs.ErrorLines.{of_session}
 use Rattle.cs_shell_replies.specs.Replies.{Reply, Silent, Text, Reported, Refused}
 use Rattle.cs_shell_replies.specs.Report.{told_of}
-use Rattle.cs_shell_script.specs.Script.{WithSession, AttachGives, ChangesetGives, IsEmptyGives, UndoGives}
+use Rattle.cs_shell_script.specs.LineAnswers.{WithSession, AttachGives, ChangesetGives, IsEmptyGives, UndoGives}
 use Rattle.cs_shell_script.specs.ShellState.{SlotMap, SessionTable, SessionTables, ShellState, net_of}
 use Rattle.cs_shell_script.specs.Works.{OrUnable, Gave, GaveOn, Works, WorksOn, IsHere, seen, seen_table}
 use Rattle.cs_shell_script.proofs.SeenLemmas.{seen_net}

@@ -23,14 +23,14 @@ use Rattle.cs_shell_columns.specs.Columns.{AreColumns, NamesKey, marks_of, colum
 use Rattle.cs_shell_columns.specs.Rows.{with_assigned}
 use Rattle.cs_shell_replies.specs.declared.refusal.Refusal.{Refusal}
 use Rattle.cs_shell_replies.specs.declared.refusal.Refusal.TheVariants.{Store, NoMemory}
-use Rattle.cs_shell_script.specs.declared.statements.Place.{Place}
+use Rattle.cs_shell_script.specs.declared.statements.Target.{Target}
 use Rattle.cs_shell_replies.specs.ErrorLines.{of_store, of_column}
 use Rattle.cs_shell_replies.specs.Replies.{Reply, Silent, Listed, Refused}
-use Rattle.cs_shell_script.specs.Script.{CreateGives, unknown_key, declared, not_declared, declared_schema, EditGives, SelectGives, RowPlace, FindsRow}
-use Rattle.cs_shell_script.specs.Script.{unknown_column, no_table, null_key, found, DeleteGives, not_deleted, deletes_row, UpdateGives, not_updated, no_row, updates_row}
+use Rattle.cs_shell_script.specs.LineAnswers.{CreateGives, unknown_key, declared, not_declared, declared_schema, EditGives, SelectGives, RowTarget, FindsRow}
+use Rattle.cs_shell_script.specs.LineAnswers.{unknown_column, no_table, null_key, found, DeleteGives, not_deleted, deletes_row, UpdateGives, not_updated, no_row, updates_row}
 use Rattle.cs_shell_script.specs.ShellState.{SlotMap, ShellState}
 use Rattle.cs_store.specs.Turns.{Reads}
-use Rattle.cs_shell_script.specs.Works.{OrUnable, Works, IsHere, Finds, place_of, seen}
+use Rattle.cs_shell_script.specs.Works.{OrUnable, Works, IsHere, Finds, target_of, seen}
 use Rattle.cs_shell_script.proofs.SessionLemmas.{declares_seen}
 use Rattle.cs_shell_script.proofs.TurnLemmas.{or_store, no_memory, unable_as, resource_of_store, reads, reads_then, works_of_read, works_after_read}
 
@@ -110,11 +110,11 @@ module _ (tables : State) (name : List ℕ) (sets conditions : List AssignmentDa
 -- ---- UPDATE and DELETE
 
 -- the table of a row that is found is there
-abbrev IsThere : State → List ℕ → Result RowPlace Refusal → Type 0
-IsThere tables name (Ok place) = schema_at tables name ≡ Some place.schema
+abbrev IsThere : State → List ℕ → Result RowTarget Refusal → Type 0
+IsThere tables name (Ok target) = schema_at tables name ≡ Some target.schema
 IsThere tables name (Err why) = Unit {0}
 
-found_there : (tables : State) (name : List ℕ) (sets conditions : List AssignmentData) (r : Result RowPlace Refusal) → FindsRow tables name sets conditions r → IsThere tables name r
+found_there : (tables : State) (name : List ℕ) (sets conditions : List AssignmentData) (r : Result RowTarget Refusal) → FindsRow tables name sets conditions r → IsThere tables name r
 found_there tables name sets conditions r (no_table none) = tt
 found_there tables name sets conditions r (unknown_column schema is why) = tt
 found_there tables name sets conditions r (null_key schema is columns names none) = tt
@@ -132,11 +132,11 @@ module _ (name : List ℕ) (conditions : List AssignmentData) where
       at state (inl finds) = inl (not_deleted why finds)
       at state (inr resource) = unable_as Deletes state why resource
 
-  pub delete_works : (a b c : Connection) (before after : Option Notes) (place : Place) (reply : Reply) → Reads a b (Finds name [] conditions (Ok place))
-      → Works b c before after (λ old. EditGives old (deleted old.tables name place.key)) reply → Works a c before after Deletes reply
-  delete_works a b c before after place reply read works =
-      works_after_read (Finds name [] conditions (Ok place)) Deletes (λ old. EditGives old (deleted old.tables name place.key)) a b c before after reply read works
-      (λ t finds slots new gives. deletes_row (place_of place) reply new finds gives)
+  pub delete_works : (a b c : Connection) (before after : Option Notes) (target : Target) (reply : Reply) → Reads a b (Finds name [] conditions (Ok target))
+      → Works b c before after (λ old. EditGives old (deleted old.tables name target.key)) reply → Works a c before after Deletes reply
+  delete_works a b c before after target reply read works =
+      works_after_read (Finds name [] conditions (Ok target)) Deletes (λ old. EditGives old (deleted old.tables name target.key)) a b c before after reply read works
+      (λ t finds slots new gives. deletes_row (target_of target) reply new finds gives)
 
 module _ (name : List ℕ) (sets conditions : List AssignmentData) where
   abbrev Updates : ShellState → Reply → ShellState → Type 0
@@ -150,39 +150,39 @@ module _ (name : List ℕ) (sets conditions : List AssignmentData) where
       at state (inl finds) = inl (not_updated why finds)
       at state (inr resource) = unable_as Updates state why resource
 
-  module _ (a b c : Connection) (place : Place) (found_place : Reads a b (Finds name sets conditions (Ok place))) (kept : KeepsStore b c) where
+  module _ (a b c : Connection) (target : Target) (found_place : Reads a b (Finds name sets conditions (Ok target))) (kept : KeepsStore b c) where
     -- the row is looked up
-    looks_up : (P : State → Type 0) → (HasCleanDisk c → b.is_open ≡ false → (t : State) → P t) → (HasCleanDisk c → P (tables_in b.now)) → Reads a c (λ t. Finds name sets conditions (Ok place) t × P t)
-    looks_up P shut holds = reads_then (Finds name sets conditions (Ok place)) P a b c found_place (reads P b c kept shut holds)
+    looks_up : (P : State → Type 0) → (HasCleanDisk c → b.is_open ≡ false → (t : State) → P t) → (HasCleanDisk c → P (tables_in b.now)) → Reads a c (λ t. Finds name sets conditions (Ok target) t × P t)
+    looks_up P shut holds = reads_then (Finds name sets conditions (Ok target)) P a b c found_place (reads P b c kept shut holds)
 
-    pub update_no_row : (session : Option Notes) → (HasCleanDisk c → b.is_open ≡ false → ⊥) → (HasCleanDisk c → None ≡ row_at (tables_in b.now) name place.key)
+    pub update_no_row : (session : Option Notes) → (HasCleanDisk c → b.is_open ≡ false → ⊥) → (HasCleanDisk c → None ≡ row_at (tables_in b.now) name target.key)
         → Works a c session session Updates (Refused (Store NoRow))
     update_no_row session shut none =
-        works_of_read (λ t. Finds name sets conditions (Ok place) t × (None ≡ row_at t name place.key)) Updates a c session (Refused (Store NoRow))
-        (looks_up (λ t. None ≡ row_at t name place.key) (λ clean is t. absurd (shut clean is)) none) (λ t read slots. inl (no_row (place_of place) read.0 (sym read.1)))
+        works_of_read (λ t. Finds name sets conditions (Ok target) t × (None ≡ row_at t name target.key)) Updates a c session (Refused (Store NoRow))
+        (looks_up (λ t. None ≡ row_at t name target.key) (λ clean is t. absurd (shut clean is)) none) (λ t read slots. inl (no_row (target_of target) read.0 (sym read.1)))
 
     pub update_no_memory : (session : Option Notes) → Works a c session session Updates (Refused NoMemory)
     update_no_memory session =
-        works_of_read (λ t. Finds name sets conditions (Ok place) t × Unit {0}) Updates a c session (Refused NoMemory) (looks_up (λ t. Unit {0}) (λ clean is t. tt) (λ clean. tt))
+        works_of_read (λ t. Finds name sets conditions (Ok target) t × Unit {0}) Updates a c session (Refused NoMemory) (looks_up (λ t. Unit {0}) (λ clean is t. tt) (λ clean. tt))
         (λ t read slots. no_memory Updates (seen t slots session))
 
     pub update_get_refused : (session : Option Notes) (e : StoreError) → (HasCleanDisk c → b.is_open ≡ false → faults.IsResource e)
         → (HasCleanDisk c → ((e ≡ NoTable) × (schema_at (tables_in b.now) name ≡ None)) ⊎ faults.IsResource e) → Works a c session session Updates (Refused (of_store e))
     update_get_refused session e shut why =
-        works_of_read (λ t. Finds name sets conditions (Ok place) t × (((e ≡ NoTable) × (schema_at t name ≡ None)) ⊎ faults.IsResource e)) Updates a c session (Refused (of_store e))
+        works_of_read (λ t. Finds name sets conditions (Ok target) t × (((e ≡ NoTable) × (schema_at t name ≡ None)) ⊎ faults.IsResource e)) Updates a c session (Refused (of_store e))
         (looks_up (λ t. ((e ≡ NoTable) × (schema_at t name ≡ None)) ⊎ faults.IsResource e) (λ clean is t. inr (shut clean is)) why)
         (λ t read slots. at (seen t slots session) read.0 read.1)
       where
-        at : (state : ShellState) → FindsRow state.tables name sets conditions (Ok (place_of place)) → ((e ≡ NoTable) × (schema_at state.tables name ≡ None)) ⊎ faults.IsResource e
+        at : (state : ShellState) → FindsRow state.tables name sets conditions (Ok (target_of target)) → ((e ≡ NoTable) × (schema_at state.tables name ≡ None)) ⊎ faults.IsResource e
             → OrUnable Updates state (Refused (of_store e)) state
         at state finds (inr resource) = or_store Updates state e (inr resource)
-        at state finds (inl none) = absurd (none-some place.schema (sym none.1 ∙ found_there state.tables name sets conditions (Ok (place_of place)) finds))
+        at state finds (inl none) = absurd (none-some target.schema (sym none.1 ∙ found_there state.tables name sets conditions (Ok (target_of target)) finds))
 
     pub update_works : (d : Connection) (before after : Option Notes) (row made : List OwnedValue) (reply : Reply) → (HasCleanDisk c → b.is_open ≡ false → ⊥)
-        → (HasCleanDisk c → Some row ≡ row_at (tables_in b.now) name place.key) → made ≡ with_assigned sets place.schema.columns row
-        → Works c d before after (λ old. EditGives old (updated old.tables name place.key made)) reply → Works a d before after Updates reply
+        → (HasCleanDisk c → Some row ≡ row_at (tables_in b.now) name target.key) → made ≡ with_assigned sets target.schema.columns row
+        → Works c d before after (λ old. EditGives old (updated old.tables name target.key made)) reply → Works a d before after Updates reply
     update_works d before after row made reply shut is same works =
-        works_after_read (λ t. Finds name sets conditions (Ok place) t × (Some row ≡ row_at t name place.key)) Updates (λ old. EditGives old (updated old.tables name place.key made)) a c d before after reply
-        (looks_up (λ t. Some row ≡ row_at t name place.key) (λ clean is t. absurd (shut clean is)) is) works
-        (λ t read slots new gives. updates_row (place_of place) row reply new read.0 (sym read.1)
-        (subst (λ (m : List OwnedValue). EditGives (seen t slots before) (updated t name place.key m) reply new) same gives))
+        works_after_read (λ t. Finds name sets conditions (Ok target) t × (Some row ≡ row_at t name target.key)) Updates (λ old. EditGives old (updated old.tables name target.key made)) a c d before after reply
+        (looks_up (λ t. Some row ≡ row_at t name target.key) (λ clean is t. absurd (shut clean is)) is) works
+        (λ t read slots new gives. updates_row (target_of target) row reply new read.0 (sym read.1)
+        (subst (λ (m : List OwnedValue). EditGives (seen t slots before) (updated t name target.key m) reply new) same gives))

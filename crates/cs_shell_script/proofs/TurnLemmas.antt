@@ -23,7 +23,7 @@ use Rattle.cs_shell_replies.specs.declared.refusal.Refusal.{Refusal}
 use Rattle.cs_shell_replies.specs.declared.refusal.Refusal.TheVariants.{NoMemory, Store}
 use Rattle.cs_shell_replies.specs.ErrorLines.{of_store, of_apply, of_session}
 use Rattle.cs_shell_replies.specs.Replies.{Reply, Refused}
-use Rattle.cs_shell_script.specs.Script.{IsResource, IsOfStore}
+use Rattle.cs_shell_script.specs.LineAnswers.{IsResource, IsOfStore}
 use Rattle.cs_shell_script.specs.ShellState.{SlotMap, ShellState}
 use Rattle.cs_store.proofs.TurnLemmas.{spares_then}
 use Rattle.cs_store.specs.Turns.{Shows, SparesOthers, SparesStore, TellsFailures, by_nothing, by_each, Stands, Known, TurnsBetween, AreSame, Turns, Reads}
@@ -63,17 +63,17 @@ holds_of old Holds shown shut t stands = at old.is_open refl
     at true is = let was = stands is in subst Holds was.1 (shown was.0)
     at false is = shut is t
 
--- ---- what is known of a store, settled or not
+-- ---- what is known of a store, at rest or not
 
-pub known_shows : (settled : Bool) (store : State) (t : tables.State) → Known settled store t → Shows store t
+pub known_shows : (at_rest : Bool) (store : State) (t : tables.State) → Known at_rest store t → Shows store t
 known_shows true store t stands = λ is_open. (stands is_open).1
 known_shows false store t shows = shows
 
-stands_known : (settled : Bool) (store : State) (t : tables.State) → Stands store t → Known settled store t
+stands_known : (at_rest : Bool) (store : State) (t : tables.State) → Stands store t → Known at_rest store t
 stands_known true store t stands = stands
 stands_known false store t stands = λ is_open. (stands is_open).1
 
-known_kept : (settled : Bool) (old new : State) (t : tables.State) → KeepsContent old new → Known settled old t → Known settled new t
+known_kept : (at_rest : Bool) (old new : State) (t : tables.State) → KeepsContent old new → Known at_rest old t → Known at_rest new t
 known_kept true old new t kept stands = stands_kept old new t kept stands
 known_kept false old new t kept shows = λ is_open. ap (λ (db : Database). tables_in db) (kept.now is_open) ∙ shows (kept.was_open is_open)
 
@@ -204,10 +204,10 @@ turns_weaker A B old new weaker turns = between_weaker (Stands old) (Stands new)
 -- ---- an empty batch, which settles a store
 
 -- it is refused
-pub batch_refused : (old new : State) → KeepsCrash old new → (HasCleanDisk new → KeepsContent old new) → (settled : Bool) → TurnsBetween old new (Known settled old) (Known settled new) AreSame
-batch_refused old new survives kept settled = record {
+pub batch_refused : (old new : State) → KeepsCrash old new → (HasCleanDisk new → KeepsContent old new) → (at_rest : Bool) → TurnsBetween old new (Known at_rest old) (Known at_rest new) AreSame
+batch_refused old new survives kept at_rest = record {
   disk = survives_tells old new survives;
-  done = λ clean t known. (t, known_kept settled old new t (kept clean) known, refl);
+  done = λ clean t known. (t, known_kept at_rest old new t (kept clean) known, refl);
   others = λ clean t known. spares_kept old new (kept clean).was_open (kept clean).now;
 }
 
@@ -222,27 +222,27 @@ batch_undone old begun new begins begun_as drops undone = record {
         t,
         (λ is_open. (
           record { is_open = is_open; autocommit = last.autocommit; committed = last.committed is_open ∙ sym (last.now is_open) },
-          ap (λ (db : Database). tables_in db) (last.now is_open ∙ first.shown.committed_is ∙ sym first.settled) ∙ shows first.shown.was_open,
+          ap (λ (db : Database). tables_in db) (last.now is_open ∙ first.shown.committed_is ∙ sym first.at_rest) ∙ shows first.shown.was_open,
         )),
         refl,
       );
   others = λ clean t shows.
       let first = begun_as (was_clean begun new drops clean) in
-      spares_kept old new (λ is_open. first.shown.was_open) (λ is_open. (undone clean).now is_open ∙ first.shown.committed_is ∙ sym first.settled);
+      spares_kept old new (λ is_open. first.shown.was_open) (λ is_open. (undone clean).now is_open ∙ first.shown.committed_is ∙ sym first.at_rest);
 }
 
--- where it is settled, whatever else is known
+-- where it is at rest, whatever else is known
 known_stands : (rests is : Bool) (store : State) (t : tables.State) → is ≡ true → Known (rests || is) store t → Stands store t
-known_stands true is store t settled known = known
-known_stands false is store t settled known = subst (λ b. Known b store t) settled known
+known_stands true is store t at_rest known = known
+known_stands false is store t at_rest known = subst (λ b. Known b store t) at_rest known
 
--- a call on a store that is settled
-pub between_settled : (rests is : Bool) (A : tables.State → tables.State → Type 0) (old new : State) → is ≡ true → Turns old new A
+-- a call on a store that is at rest
+pub between_at_rest : (rests is : Bool) (A : tables.State → tables.State → Type 0) (old new : State) → is ≡ true → Turns old new A
     → TurnsBetween old new (Known (rests || is) old) (Known (rests || is) new) A
-between_settled rests is A old new settled turns = record {
+between_at_rest rests is A old new at_rest turns = record {
   disk = turns.disk;
-  done = λ clean t known. let done = turns.done clean t (known_stands rests is old t settled known) in (done.0, stands_known (rests || is) new done.0 done.1, done.2);
-  others = λ clean t known. turns.others clean t (known_stands rests is old t settled known);
+  done = λ clean t known. let done = turns.done clean t (known_stands rests is old t at_rest known) in (done.0, stands_known (rests || is) new done.0 done.1, done.2);
+  others = λ clean t known. turns.others clean t (known_stands rests is old t at_rest known);
 }
 
 -- more was known before, or less is after

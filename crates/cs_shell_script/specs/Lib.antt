@@ -1,6 +1,6 @@
 pub mod Net
 pub mod ShellState
-pub mod Script
+pub mod LineAnswers
 pub mod Works
 pub mod Shells
 pub mod Laws

@@ -7,11 +7,11 @@ use Rattle.cs_file_texts.specs.declared.told.Told.{Told}
 use Rattle.cs_files.specs.Told.{known}
 use Rattle.cs_files.specs.Calls.{AppendsFront, Writes}
 use Rattle.cs_shell_script.specs.declared.reader.LineReader.{LineReader}
-use Rattle.cs_shell_script.specs.declared.script.Script.{Script}
+use Rattle.cs_shell_script.specs.declared.script.RunningScript.{RunningScript}
 use Rattle.cs_shell_script.specs.declared.script.Status.{Status}
 use Rattle.cs_shell_script.specs.declared.script.Status.TheVariants.{TooLong, InputFault, OutputFault}
-use Rattle.cs_shell_script.specs.declared.script.Stop.{Stop}
-use Rattle.cs_shell_script.specs.declared.script.Stop.TheVariants as stop
+use Rattle.cs_shell_script.specs.declared.script.Interruption.{Interruption}
+use Rattle.cs_shell_script.specs.declared.script.Interruption.TheVariants as stop
 use Rattle.cs_shell_replies.specs.Replies.{Reply, reply_text, replies_text, is_refused}
 use Rattle.cs_shell_script.specs.Runs.{Splits, LinesGive, Answers, AnswersAll, SCRIPT_LIMIT}
 
@@ -34,24 +34,24 @@ Adds old new byte = new.is_lost ≡ false → (old.is_lost ≡ false) × (new.by
 -- ---- lines
 
 -- nothing is read, and no line was refused
-abbrev pub IsFresh : Script → Type 0
+abbrev pub IsFresh : RunningScript → Type 0
 IsFresh script = IsAtStart script.line × (script.has_refused ≡ false)
 
 -- a script that is being run, and what answers its lines
 pub record Running (M : Type 0) : Type 0 where
-  pub machine : M
+  pub interpreter : M
   pub line : LineReader
   pub has_refused : Bool
 
-abbrev pub running : {M : Type 0} → M → Script → Running M
-running machine script =
-    record { machine = machine; line = script.line; has_refused = script.has_refused }
+abbrev pub running : {M : Type 0} → M → RunningScript → Running M
+running interpreter script =
+    record { interpreter = interpreter; line = script.line; has_refused = script.has_refused }
 
 -- the line was answered, its answer was written, or some front of it, and the next line begins
 pub record EndsLine {M W X E : Type 0} (contents : W → Option (List ℕ)) (gives : M → List ℕ → Reply → M → Type 0)
     (old new : Running M) (result : Result X E) (before after : Told W) : Type 0 where
   pub reply : Reply
-  pub given : (line : List ℕ) → Holds old.line line → gives old.machine line reply new.machine
+  pub given : (line : List ℕ) → Holds old.line line → gives old.interpreter line reply new.interpreter
   pub writes : Writes contents result before after (reply_text reply)
   pub has_refused : new.has_refused ≡ (old.has_refused || is_refused reply)
   pub at_start : IsAtStart new.line
@@ -63,7 +63,7 @@ pub record Progress {M : Type 0} (gives : M → List ℕ → Reply → M → Typ
   pub last : List ℕ
   pub replies : List Reply
   pub splits : Splits front lines last
-  pub given : LinesGive gives start lines replies script.machine
+  pub given : LinesGive gives start lines replies script.interpreter
   pub written : Appends before after (replies_text replies)
   pub has_refused : list_any is_refused replies ≡ script.has_refused
   pub holds : Holds script.line last
@@ -91,14 +91,14 @@ pub record Breaks {M W : Type 0} (contents : W → Option (List ℕ)) (gives : M
     (old new : Running M) (before after : Told W) (bytes : List ℕ) : Type 0 where
   pub broken : (start : M) (front : List ℕ) (first : Option (List ℕ))
       → Progress gives start front first (known contents before) old
-      → Broken gives start (front ++ bytes) first (known contents after) new.machine
+      → Broken gives start (front ++ bytes) first (known contents after) new.interpreter
 
 -- whatever text was run, its last line is run too
 pub record Finishes {M W : Type 0} (contents : W → Option (List ℕ)) (gives : M → List ℕ → Reply → M → Type 0)
     (old new : Running M) (before after : Told W) : Type 0 where
   pub answered : (start : M) (text : List ℕ) (first : Option (List ℕ))
       → Progress gives start text first (known contents before) old
-      → (replies : List Reply) × AnswersAll gives start text replies new.machine
+      → (replies : List Reply) × AnswersAll gives start text replies new.interpreter
       × Appends first (known contents after) (replies_text replies)
       × (list_any is_refused replies ≡ new.has_refused)
 
@@ -107,7 +107,7 @@ pub record Unfinished {M W : Type 0} (contents : W → Option (List ℕ)) (gives
     (old new : Running M) (before after : Told W) : Type 0 where
   pub answered : (start : M) (text : List ℕ) (first : Option (List ℕ))
       → Progress gives start text first (known contents before) old
-      → (replies : List Reply) × AnswersAll gives start text replies new.machine
+      → (replies : List Reply) × AnswersAll gives start text replies new.interpreter
       × AppendsFront first (known contents after) (replies_text replies)
 
 -- ---- the input
@@ -120,7 +120,7 @@ pub record HasRead {M R W : Type 0} (remaining : R → Option (List ℕ)) (conte
   pub consumed : Consumes (known remaining input_old) (known remaining input_new) text
   pub counted : length text ≡ count
   pub within : count ≤ SCRIPT_LIMIT
-  pub progress : Progress gives old.machine text (known contents before) (known contents after) new
+  pub progress : Progress gives old.interpreter text (known contents before) (known contents after) new
 
 -- the input was read to its end and run
 pub record ReadsText {M R W : Type 0} (remaining : R → Option (List ℕ)) (contents : W → Option (List ℕ))
@@ -131,7 +131,7 @@ pub record ReadsText {M R W : Type 0} (remaining : R → Option (List ℕ)) (con
   pub at_end : IsAtEnd (known remaining input_new)
 
 -- how a script ends that is stopped
-abbrev pub status_of : Stop → Status
+abbrev pub status_of : Interruption → Status
 status_of stop.TooLong = TooLong
 status_of stop.Input = InputFault
 status_of stop.Output = OutputFault

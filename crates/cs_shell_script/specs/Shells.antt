@@ -11,7 +11,7 @@ use Rattle.cs_shell_script.specs.Runs.{Runs}
 use Rattle.cs_shell_script.specs.declared.script.Status.{Status}
 use Rattle.cs_file_texts.specs.declared.told.Told.{Told}
 
--- a line gave this reply, over a store that was settled, or not, and is, or not; one that is at rest stays so
+-- a line gave this reply, over a store that was at rest, or not, and is, or not; one that is at rest stays so
 abbrev pub Answers : sqlite.State → sqlite.State → Bool → Bool → Workspace → Workspace → List ℕ → Reply → Type 0
 Answers old new was is before after line reply = (rests : Bool)
     → TurnsBetween old new (Known (rests || was) old) (Known (rests || is) new)

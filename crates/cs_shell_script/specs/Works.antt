@@ -7,9 +7,9 @@ use Rattle.cs_session.specs.FirstImages.{AttachedTable, Notes, rewound_rows}
 use Rattle.cs_session.specs.Runs.{IsMoment}
 use Rattle.cs_shell_grammar.specs.Commands.{AssignmentData}
 use Rattle.cs_shell_replies.specs.declared.refusal.Refusal.{Refusal}
-use Rattle.cs_shell_script.specs.declared.statements.Place.{Place}
+use Rattle.cs_shell_script.specs.declared.statements.Target.{Target}
 use Rattle.cs_shell_replies.specs.Replies.{Reply, Refused}
-use Rattle.cs_shell_script.specs.Script.{RowPlace, FindsRow, IsResource}
+use Rattle.cs_shell_script.specs.LineAnswers.{RowTarget, FindsRow, IsResource}
 use Rattle.cs_shell_script.specs.ShellState.{SlotMap, SessionTable, SessionTables, ShellState}
 use Rattle.cs_store.specs.Turns.{Turns}
 
@@ -70,9 +70,9 @@ WorksOn old new slots filled noted notes Gives reply = Turns old new (GaveOn slo
 
 -- ---- rows that are found
 
-abbrev pub place_of : Place → RowPlace
-place_of place = record { schema = place.schema; key = place.key }
+abbrev pub target_of : Target → RowTarget
+target_of target = record { schema = target.schema; key = target.key }
 
-abbrev pub Finds : List ℕ → List AssignmentData → List AssignmentData → Result Place Refusal → State → Type 0
-Finds name sets conditions (Ok place) tables = FindsRow tables name sets conditions (Ok (place_of place))
+abbrev pub Finds : List ℕ → List AssignmentData → List AssignmentData → Result Target Refusal → State → Type 0
+Finds name sets conditions (Ok target) tables = FindsRow tables name sets conditions (Ok (target_of target))
 Finds name sets conditions (Err why) tables = FindsRow tables name sets conditions (Err why) ⊎ IsResource why

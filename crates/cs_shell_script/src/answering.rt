@@ -3,7 +3,7 @@ ghost use Rattle.std.specs.Prelude.{◌≡◌, ◌||◌, Bool, true, IfErr, OnOk
 ghost use Rattle.sqlite.specs.Held.{state};
 ghost use Rattle.cs_shell_grammar.specs.Commands.{command_of};
 ghost use Rattle.cs_shell_replies.specs.Replies.{answer_of};
-ghost use Rattle.cs_shell_script.specs.Script.{CommandGives, LineGives, IsResource};
+ghost use Rattle.cs_shell_script.specs.LineAnswers.{CommandGives, LineGives, IsResource};
 ghost use Rattle.cs_store.specs.Turns.{Shows, AreSame, Known, Stands, TurnsBetween};
 ghost use Rattle.cs_shell_script.specs.Works.{WorksOn};
 
@@ -16,8 +16,8 @@ use sqlite::Alter;
 use std::alloc::Global;
 
 /// Begins an empty batch and drops it. That fails while a batch is open.
-fn settle<S: Alter>(store: &mut Store<S>) -> Result<(), Refusal>
-    ensures settled { OnOk result (TurnsBetween (state S.Store store.old) (state S.Store store.new)
+fn check_at_rest<S: Alter>(store: &mut Store<S>) -> Result<(), Refusal>
+    ensures at_rest { OnOk result (TurnsBetween (state S.Store store.old) (state S.Store store.new)
         (Shows (state S.Store store.old)) (Stands (state S.Store store.new)) AreSame) }
     ensures kept { OnErr result ((was : Bool) → TurnsBetween (state S.Store store.old) (state S.Store store.new)
         (Known was (state S.Store store.old)) (Known was (state S.Store store.new)) AreSame) }
@@ -28,18 +28,21 @@ fn settle<S: Alter>(store: &mut Store<S>) -> Result<(), Refusal>
 }
 
 /// Makes sure once that no batch is open in a store. The flag says whether that is known.
-pub fn settle_once<S: Alter>(store: &mut Store<S>, is_settled: &mut bool) -> Result<(), Refusal>
-    ensures settled { OnOk result (is_settled.new ≡ true) }
+pub fn check_at_rest_once<S: Alter>(
+    store: &mut Store<S>,
+    is_at_rest: &mut bool,
+) -> Result<(), Refusal>
+    ensures at_rest { OnOk result (is_at_rest.new ≡ true) }
     ensures turns { (rests : Bool) → TurnsBetween (state S.Store store.old) (state S.Store store.new)
-        (Known (rests || is_settled.old) (state S.Store store.old))
-        (Known (rests || is_settled.new) (state S.Store store.new)) AreSame }
+        (Known (rests || is_at_rest.old) (state S.Store store.old))
+        (Known (rests || is_at_rest.new) (state S.Store store.new)) AreSame }
     ensures named { IfErr result IsResource }
 {
-    if *is_settled {
+    if *is_at_rest {
         return Ok(());
     }
-    settle(store)?;
-    *is_settled = true;
+    check_at_rest(store)?;
+    *is_at_rest = true;
     Ok(())
 }
 
@@ -110,7 +113,7 @@ fn run_command<S: Alter>(
     }
 }
 
-/// Carries out a line, and returns its reply. No batch is open in the store: see [`settle_once`]. A refused line
+/// Carries out a line, and returns its reply. No batch is open in the store: see [`check_at_rest_once`]. A refused line
 /// changes nothing.
 pub fn answer_line<S: Alter>(
     alloc: Global,

@@ -3,7 +3,7 @@ ghost use Rattle.std.specs.Prelude.{None, Some};
 ghost use Rattle.sqlite.specs.Held.{state};
 ghost use Rattle.cs_apply_rows.specs.declared.running.Direction.TheVariants.{Forward};
 ghost use Rattle.cs_shell_replies.specs.Replies.{answer_of};
-ghost use Rattle.cs_shell_script.specs.Script.{AnswersApply, ApplyGives, ByKind, RevertGives};
+ghost use Rattle.cs_shell_script.specs.LineAnswers.{AnswersApply, ApplyGives, ByKind, RevertGives};
 ghost use Rattle.cs_shell_script.specs.Works.{Works};
 
 use cs_apply::{Choice, Conflict, Noop, Policy, apply_counted, revert};

@@ -1,6 +1,6 @@
 //! What lines do with the changesets in slots.
 ghost use Rattle.cs_shell_grammar.specs.Commands as lines;
-ghost use Rattle.cs_shell_script.specs.Script.{SlotsGive};
+ghost use Rattle.cs_shell_script.specs.LineAnswers.{SlotsGive};
 ghost use Rattle.cs_shell_replies.specs.Replies.{answer_of};
 
 use crate::slots::Slots;

@@ -13,9 +13,9 @@
 //! in the store. `workspace` has the `slots`, which are bytes with names, and the session, if one is open. `statements`
 //! has the lines on tables, `changesets` those on slots, `applying` the applies and `sessions` the lines of a session.
 //!
-//! `script` reads lines by a `reader`, passes each to a machine, and prints the replies. `shell` is the machine over a
-//! store. `meant` has the line that a line stands for. `laws` has what holds of whole scripts. [`cs_shell_replies`] has
-//! the replies and how they are printed.
+//! `script` reads lines by a `reader`, passes each to an interpreter, and prints the replies. `shell` is the
+//! interpreter over a store. `meant` has the line that a line stands for. `laws` has what holds of whole scripts.
+//! [`cs_shell_replies`] has the replies and how they are printed.
 #![tactic(auto)]
 
 mod answering;
@@ -31,7 +31,7 @@ mod slots;
 mod statements;
 mod workspace;
 
-pub use answering::{answer_line, settle_once};
+pub use answering::{answer_line, check_at_rest_once};
 pub use applying::apply_unnoted;
 pub use laws::{net_law, script_net_law};
 pub use script::Status;

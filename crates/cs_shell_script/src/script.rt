@@ -4,7 +4,7 @@ ghost use Rattle.std.specs.Prelude.{IfOk, IfErr, OnOk, OnErr};
 ghost use Rattle.std.specs.Io.KnownBytes.{Consumes, IsAtEnd, Keeps};
 ghost use Rattle.cs_shell_replies.specs.declared.refusal.Refusal.TheVariants as refusal;
 ghost use Rattle.cs_shell_script.specs.declared.script.Status.TheVariants.{Done as EndsDone, LinesRefused as EndsRefused};
-ghost use Rattle.cs_shell_script.specs.declared.script.Stop.TheVariants.{Output};
+ghost use Rattle.cs_shell_script.specs.declared.script.Interruption.TheVariants.{Output};
 ghost use Rattle.cs_files.specs.Told.{has_failed, known};
 ghost use Rattle.cs_shell_replies.specs.Replies.{Reply as ReplyData, Refused, answer_of};
 ghost use Rattle.cs_shell_script.specs.Runs.{Runs};
@@ -18,12 +18,12 @@ use std::alloc::Global;
 use std::io::{Read, Write};
 
 /// What answers the lines of a script.
-pub(crate) trait Machine {
-    // What a line is answered, and what it makes of the machine.
+pub(crate) trait Interpreter {
+    // What a line is answered, and what it makes of the interpreter.
     ghost gives: { Self → List ℕ → ReplyData → Self → Type 0 };
 
-    // Any line may be refused because memory runs out. Then the machine is unchanged.
-    ghost loses: { (machine : Self) (line : List ℕ) → gives machine line (Refused refusal.NoMemory) machine };
+    // Any line may be refused because memory runs out. Then the interpreter is unchanged.
+    ghost loses: { (interpreter : Self) (line : List ℕ) → gives interpreter line (Refused refusal.NoMemory) interpreter };
 
     /// Carries out a line, and returns the reply.
     fn answer(&mut self, alloc: Global, line: &[u8]) -> Result<Reply, Refusal>
@@ -47,7 +47,7 @@ pub enum Status {
 
 /// Why a script is not run to its end.
 #[derive(Clone, Copy, Debug, PartialEq, Eq)]
-enum Stop {
+enum Interruption {
     /// It has more than `SCRIPT_LIMIT` bytes.
     TooLong,
     /// A read failed.
@@ -56,11 +56,11 @@ enum Stop {
     Output,
 }
 
-impl From<OutputFault> for Stop {
+impl From<OutputFault> for Interruption {
     ghost from_gives = { λ _ stop. stop ≡ Output };
 
-    fn from(_fault: OutputFault) -> Stop {
-        Stop::Output
+    fn from(_fault: OutputFault) -> Interruption {
+        Interruption::Output
     }
 }
 
@@ -75,143 +75,147 @@ fn next_piece<'a, R: Read>(
     input: &mut Told<R>,
     chunk: &'a mut [u8],
     most: usize,
-) -> Result<&'a [u8], Stop>
+) -> Result<&'a [u8], Interruption>
     requires { most ≤ length chunk.now }
     ensures piece { IfOk result (λ piece.
         Consumes (known R.remaining input.old) (known R.remaining input.new) piece.now) }
     ensures short { IfOk result (λ piece. length piece.now ≤ most) }
     ensures end { IfOk result (λ piece. length piece.now ≡ 0 → 0 < most →
         IsAtEnd (known R.remaining input.new)) }
-    ensures err { IfErr result (λ stop. stop ≡ Stop.Input) }
+    ensures err { IfErr result (λ stop. stop ≡ Interruption.Input) }
     ensures kept { OnErr result (Keeps (known R.remaining input.old) (known R.remaining input.new)) }
     ensures flagged { OnErr result (IsTrue (has_failed input.new)) }
 {
     match input.read(&mut chunk[..most]) {
         Ok(count) => Ok(&chunk[..count]),
-        Err(_) => Err(Stop::Input),
+        Err(_) => Err(Interruption::Input),
     }
 }
 
 /// A running script: the line that is being read, and what is known of the lines before.
 #[derive(Drop)]
-struct Script {
+struct RunningScript {
     line: LineReader,
     /// Whether a line was refused.
     has_refused: bool,
 }
 
-impl Script {
+impl RunningScript {
     /// Returns a script of which nothing is read.
-    fn new(alloc: Global) -> Script
+    fn new(alloc: Global) -> RunningScript
         ensures { IsFresh result }
     {
-        Script {
+        RunningScript {
             line: LineReader::new(alloc),
             has_refused: false,
         }
     }
 
     /// Returns the machine's reply to the line.
-    fn answer_line<M: Machine>(&self, alloc: Global, machine: &mut M) -> Result<Reply, Refusal>
+    fn answer_line<M: Interpreter>(
+        &self,
+        alloc: Global,
+        interpreter: &mut M,
+    ) -> Result<Reply, Refusal>
         ensures { (line : List ℕ) → Holds self.now.line line →
-            M.gives machine.old line (answer_of result) machine.new }
+            M.gives interpreter.old line (answer_of result) interpreter.new }
     {
         match self.line.bytes() {
-            Some(line) => machine.answer(alloc, line),
+            Some(line) => interpreter.answer(alloc, line),
             None => Err(Refusal::NoMemory),
         }
     }
 
-    /// Has the machine answer the line, prints the reply and begins the next line.
-    fn end_line<M: Machine, W: Write>(
+    /// Has the interpreter answer the line, prints the reply and begins the next line.
+    fn end_line<M: Interpreter, W: Write>(
         &mut self,
         alloc: Global,
-        machine: &mut M,
+        interpreter: &mut M,
         out: &mut Told<W>,
     ) -> Result<(), OutputFault>
-        ensures { EndsLine W.contents M.gives (running machine.old self.old) (running machine.new self.new)
+        ensures { EndsLine W.contents M.gives (running interpreter.old self.old) (running interpreter.new self.new)
             result out.old out.new }
     {
-        let answer = self.answer_line(alloc, machine);
+        let answer = self.answer_line(alloc, interpreter);
         self.has_refused |= answer.is_err();
         self.line.restart();
         write_answer(out, &answer)
     }
 
     /// Takes a byte of the script. Runs the line if the byte ends it.
-    fn take<M: Machine, W: Write>(
+    fn take<M: Interpreter, W: Write>(
         &mut self,
         alloc: Global,
-        machine: &mut M,
+        interpreter: &mut M,
         byte: u8,
         out: &mut Told<W>,
     ) -> Result<(), OutputFault>
-        ensures ok { OnOk result (Advances W.contents M.gives (running machine.old self.old)
-            (running machine.new self.new) out.old out.new (byte ∷ [])) }
-        ensures broken { OnErr result (Breaks W.contents M.gives (running machine.old self.old)
-            (running machine.new self.new) out.old out.new (byte ∷ [])) }
+        ensures ok { OnOk result (Advances W.contents M.gives (running interpreter.old self.old)
+            (running interpreter.new self.new) out.old out.new (byte ∷ [])) }
+        ensures broken { OnErr result (Breaks W.contents M.gives (running interpreter.old self.old)
+            (running interpreter.new self.new) out.old out.new (byte ∷ [])) }
         ensures flagged { OnErr result (IsTrue (has_failed out.new)) }
     {
         if byte == b'\n' {
-            return self.end_line(alloc, machine, out);
+            return self.end_line(alloc, interpreter, out);
         }
         self.line.add(alloc, byte);
         Ok(())
     }
 
     /// Takes bytes of the script, and runs each line that ends in them.
-    fn take_all<M: Machine, W: Write>(
+    fn take_all<M: Interpreter, W: Write>(
         &mut self,
         alloc: Global,
-        machine: &mut M,
+        interpreter: &mut M,
         bytes: &[u8],
         out: &mut Told<W>,
     ) -> Result<(), OutputFault>
-        ensures ok { OnOk result (Advances W.contents M.gives (running machine.old self.old)
-            (running machine.new self.new) out.old out.new bytes.now) }
-        ensures broken { OnErr result (Breaks W.contents M.gives (running machine.old self.old)
-            (running machine.new self.new) out.old out.new bytes.now) }
+        ensures ok { OnOk result (Advances W.contents M.gives (running interpreter.old self.old)
+            (running interpreter.new self.new) out.old out.new bytes.now) }
+        ensures broken { OnErr result (Breaks W.contents M.gives (running interpreter.old self.old)
+            (running interpreter.new self.new) out.old out.new bytes.now) }
         ensures flagged { OnErr result (IsTrue (has_failed out.new)) }
     {
         for byte in bytes {
-            self.take(alloc, machine, *byte, out)?;
+            self.take(alloc, interpreter, *byte, out)?;
         }
         Ok(())
     }
 
     /// Runs the last line, if it has a byte and no line feed.
-    fn finish<M: Machine, W: Write>(
+    fn finish<M: Interpreter, W: Write>(
         &mut self,
         alloc: Global,
-        machine: &mut M,
+        interpreter: &mut M,
         out: &mut Told<W>,
     ) -> Result<(), OutputFault>
-        ensures ok { OnOk result (Finishes W.contents M.gives (running machine.old self.old)
-            (running machine.new self.new) out.old out.new) }
-        ensures broken { OnErr result (Unfinished W.contents M.gives (running machine.old self.old)
-            (running machine.new self.new) out.old out.new) }
+        ensures ok { OnOk result (Finishes W.contents M.gives (running interpreter.old self.old)
+            (running interpreter.new self.new) out.old out.new) }
+        ensures broken { OnErr result (Unfinished W.contents M.gives (running interpreter.old self.old)
+            (running interpreter.new self.new) out.old out.new) }
         ensures flagged { OnErr result (IsTrue (has_failed out.new)) }
     {
         if self.line.has_begun() {
-            return self.end_line(alloc, machine, out);
+            return self.end_line(alloc, interpreter, out);
         }
         Ok(())
     }
 
     /// Reads the input, and runs each line that ends with a line feed. Stops if the script is too long, or a read or a
     /// write fails.
-    fn take_input<M: Machine, R: Read, W: Write>(
+    fn take_input<M: Interpreter, R: Read, W: Write>(
         &mut self,
         alloc: Global,
-        machine: &mut M,
+        interpreter: &mut M,
         input: &mut Told<R>,
         out: &mut Told<W>,
-    ) -> Result<(), Stop>
+    ) -> Result<(), Interruption>
         requires { IsFresh self.old }
-        ensures ok { OnOk result (ReadsText R.remaining W.contents M.gives (running machine.old self.old)
-            (running machine.new self.new) input.old input.new out.old out.new) }
+        ensures ok { OnOk result (ReadsText R.remaining W.contents M.gives (running interpreter.old self.old)
+            (running interpreter.new self.new) input.old input.new out.old out.new) }
         ensures stopped { IfErr result (λ stop. Runs R.remaining W.contents M.gives (status_of stop)
-            machine.old machine.new input.old input.new out.old out.new) }
+            interpreter.old interpreter.new input.old input.new out.old out.new) }
     {
         let mut chunk = [0; CHUNK_LEN];
         let mut count = 0;
@@ -223,55 +227,55 @@ impl Script {
                 return Ok(());
             }
             if piece.len() > left {
-                self.take_all(alloc, machine, &piece[..left], out)?;
+                self.take_all(alloc, interpreter, &piece[..left], out)?;
                 write_refusal(out, &Refusal::ScriptTooLong)?;
-                return Err(Stop::TooLong);
+                return Err(Interruption::TooLong);
             }
-            self.take_all(alloc, machine, piece, out)?;
+            self.take_all(alloc, interpreter, piece, out)?;
             count += piece.len();
         }
     }
 
     /// Runs all of the input.
-    fn run<M: Machine, R: Read, W: Write>(
+    fn run<M: Interpreter, R: Read, W: Write>(
         &mut self,
         alloc: Global,
-        machine: &mut M,
+        interpreter: &mut M,
         input: &mut Told<R>,
         out: &mut Told<W>,
-    ) -> Result<(), Stop>
+    ) -> Result<(), Interruption>
         requires { IsFresh self.old }
         ensures ok { OnOk result (Runs R.remaining W.contents M.gives
             (if self.new.has_refused then EndsRefused else EndsDone)
-            machine.old machine.new input.old input.new out.old out.new) }
+            interpreter.old interpreter.new input.old input.new out.old out.new) }
         ensures stopped { IfErr result (λ stop. Runs R.remaining W.contents M.gives (status_of stop)
-            machine.old machine.new input.old input.new out.old out.new) }
+            interpreter.old interpreter.new input.old input.new out.old out.new) }
     {
-        self.take_input(alloc, machine, input, out)?;
-        self.finish(alloc, machine, out)?;
+        self.take_input(alloc, interpreter, input, out)?;
+        self.finish(alloc, interpreter, out)?;
         Ok(())
     }
 }
 
-/// Runs a script by a machine: reads its lines, answers them, and prints the replies. The lines that were read are
+/// Runs a script by an interpreter: reads its lines, answers them, and prints the replies. The lines that were read are
 /// answered before more is read. A line is refused if memory runs out for it. After 16777216 bytes one byte more ends
 /// the script: the lines that end before it are run, and an error line is printed. The script also ends if a read or a
 /// write fails. What its lines did remains.
-pub(crate) fn run_machine<M: Machine, R: Read, W: Write>(
+pub(crate) fn run_interpreter<M: Interpreter, R: Read, W: Write>(
     alloc: Global,
-    machine: &mut M,
+    interpreter: &mut M,
     input: &mut Told<R>,
     out: &mut Told<W>,
 ) -> Status
-    ensures { Runs R.remaining W.contents M.gives result machine.old machine.new
+    ensures { Runs R.remaining W.contents M.gives result interpreter.old interpreter.new
         input.old input.new out.old out.new }
 {
-    let mut script = Script::new(alloc);
-    match script.run(alloc, machine, input, out) {
+    let mut script = RunningScript::new(alloc);
+    match script.run(alloc, interpreter, input, out) {
         Ok(()) if script.has_refused => Status::LinesRefused,
         Ok(()) => Status::Done,
-        Err(Stop::TooLong) => Status::TooLong,
-        Err(Stop::Input) => Status::InputFault,
-        Err(Stop::Output) => Status::OutputFault,
+        Err(Interruption::TooLong) => Status::TooLong,
+        Err(Interruption::Input) => Status::InputFault,
+        Err(Interruption::Output) => Status::OutputFault,
     }
 }

@@ -3,8 +3,8 @@ ghost use Rattle.std.specs.Prelude.{◌≡◌};
 ghost use Rattle.sqlite.specs.Held.{state};
 ghost use Rattle.cs_value.specs.State.{State};
 ghost use Rattle.cs_shell_replies.specs.Replies.{answer_of};
-ghost use Rattle.cs_shell_script.specs.Script.{WithSession, OpenGives, AttachGives, ChangesetGives};
-ghost use Rattle.cs_shell_script.specs.Script.{IsEmptyGives, UndoGives, CloseGives};
+ghost use Rattle.cs_shell_script.specs.LineAnswers.{WithSession, OpenGives, AttachGives, ChangesetGives};
+ghost use Rattle.cs_shell_script.specs.LineAnswers.{IsEmptyGives, UndoGives, CloseGives};
 ghost use Rattle.cs_shell_script.specs.ShellState.{SlotMap};
 ghost use Rattle.cs_shell_script.specs.Works.{IsHere, OrUnable, Works, WorksOn, seen};
 

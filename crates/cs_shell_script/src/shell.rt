@@ -11,9 +11,9 @@ ghost use Rattle.cs_shell_script.specs.Runs.{Runs};
 ghost use Rattle.cs_shell_script.specs.Shells.{RunsShell};
 ghost use Rattle.cs_shell_script.specs.StoreRuns.{HasReply, RunsScript};
 
-use crate::answering::{answer_line, settle_once};
+use crate::answering::{answer_line, check_at_rest_once};
 use crate::meant::spelled_line;
-use crate::script::{Machine, Status, run_machine};
+use crate::script::{Interpreter, Status, run_interpreter};
 use crate::workspace::Workspace;
 use cs_files::Told;
 use cs_shell_replies::{Refusal, Reply};
@@ -28,27 +28,27 @@ pub(crate) struct Shell<'a, S: Alter> {
     pub(crate) store: &'a mut Store<S>,
     pub(crate) work: &'a mut Workspace,
     /// Whether it is known that no batch is open in the store.
-    pub(crate) is_settled: bool,
+    pub(crate) is_at_rest: bool,
 }
 
-impl<S: Alter> Machine for Shell<'_, S> {
+impl<S: Alter> Interpreter for Shell<'_, S> {
     ghost use Rattle.std.proofs.Common.{refl};
     ghost use Rattle.cs_shell_script.specs.Laws.{loses_line};
     ghost use Rattle.cs_shell_script.specs.Shells.{Answers};
 
     ghost gives = { λ a line reply b. (b.store.ghost_name ≡ a.store.ghost_name)
-        × Answers (state S.Store a.store.now) (state S.Store b.store.now) a.is_settled b.is_settled
+        × Answers (state S.Store a.store.now) (state S.Store b.store.now) a.is_at_rest b.is_at_rest
         a.work.now b.work.now line reply };
 
     fn answer(&mut self, alloc: Global, line: &[u8]) -> Result<Reply, Refusal> {
-        settle_once(self.store, &mut self.is_settled)?;
+        check_at_rest_once(self.store, &mut self.is_at_rest)?;
         answer_meant(alloc, self.store, self.work, line)
     }
 
-    ghost loses = { λ machine line. (
+    ghost loses = { λ interpreter line. (
       refl,
-      loses_line (state S.Store machine.store.now) machine.is_settled
-          machine.work.now line,
+      loses_line (state S.Store interpreter.store.now) interpreter.is_at_rest
+          interpreter.work.now line,
     ) };
 }
 
@@ -78,12 +78,12 @@ fn run_shell<S: Alter, R: Read, W: Write>(
     ensures kept { shell.new.store.ghost_name ≡ shell.old.store.ghost_name }
     ensures answered { Runs R.remaining W.contents HasReply result tt tt input.old input.new out.old out.new }
     ensures ran { (rests : Bool) → TurnsBetween (state S.Store shell.old.store.now) (state S.Store shell.new.store.now)
-        (Known (rests || shell.old.is_settled) (state S.Store shell.old.store.now))
-        (Known (rests || shell.new.is_settled) (state S.Store shell.new.store.now))
+        (Known (rests || shell.old.is_at_rest) (state S.Store shell.old.store.now))
+        (Known (rests || shell.new.is_at_rest) (state S.Store shell.new.store.now))
         (RunsShell R.remaining W.contents result shell.old.work.now shell.new.work.now
         input.old input.new out.old out.new) }
 {
-    run_machine(alloc, shell, input, out)
+    run_interpreter(alloc, shell, input, out)
 }
 
 /// Runs a script on a store: reads its lines, answers them, and prints the replies. The lines that were read are
@@ -118,7 +118,7 @@ pub fn run_script<S: Alter, R: Read, W: Write>(
     let mut shell = Shell {
         store,
         work: &mut work,
-        is_settled: false,
+        is_at_rest: false,
     };
     run_shell(alloc, &mut shell, input, out)
 }

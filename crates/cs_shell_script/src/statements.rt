@@ -5,7 +5,7 @@ ghost use Rattle.cs_store.specs.Editing.{edited, inserted};
 ghost use Rattle.cs_session.specs.FirstImages.{Notes};
 ghost use Rattle.cs_shell_grammar.specs.Commands.{assignment_of};
 ghost use Rattle.cs_shell_replies.specs.Replies.{answer_of};
-ghost use Rattle.cs_shell_script.specs.Script.{CreateGives, EditGives, UpdateGives, DeleteGives, SelectGives};
+ghost use Rattle.cs_shell_script.specs.LineAnswers.{CreateGives, EditGives, UpdateGives, DeleteGives, SelectGives};
 ghost use Rattle.cs_store.specs.Turns.{Reads};
 ghost use Rattle.cs_shell_script.specs.Works.{Works, Finds};
 
@@ -20,7 +20,7 @@ use std::alloc::Global;
 
 /// A row that conditions name: the schema of its table, and its key.
 #[derive(Debug, Drop)]
-pub(crate) struct Place {
+pub(crate) struct Target {
     schema: Schema,
     key: Key,
 }
@@ -112,7 +112,7 @@ fn find_row<S: Alter>(
     table: &str,
     sets: &[Assignment],
     conditions: &[Assignment],
-) -> Result<Place, Refusal>
+) -> Result<Target, Refusal>
     ensures { Reads (state S.Store store.old) (state S.Store store.new)
         (Finds table.now (map assignment_of sets.now) (map assignment_of conditions.now) result) }
 {
@@ -122,7 +122,7 @@ fn find_row<S: Alter>(
     check_assignments(alloc, &schema, sets)?;
     check_conditions(alloc, &schema, conditions)?;
     match named_key(alloc, &schema, conditions)? {
-        Some(key) => Ok(Place { schema, key }),
+        Some(key) => Ok(Target { schema, key }),
         None => Err(Refusal::Store(StoreError::NullInKey)),
     }
 }
@@ -140,7 +140,7 @@ pub(crate) fn update<S: Alter>(
         (λ old. UpdateGives old (string_bytes table) (map assignment_of sets.now) (map assignment_of conditions.now))
         (answer_of result) }
 {
-    let Place { schema, key } = find_row(alloc, store, table.as_str(), sets, conditions)?;
+    let Target { schema, key } = find_row(alloc, store, table.as_str(), sets, conditions)?;
     let Some(row) = store.get(alloc, table.as_str(), &key)? else {
         return Err(Refusal::Store(StoreError::NoRow));
     };
@@ -159,7 +159,7 @@ pub(crate) fn delete<S: Alter>(
     ensures { Works (state S.Store store.old) (state S.Store store.new) session.old session.new
         (λ old. DeleteGives old (string_bytes table) (map assignment_of conditions.now)) (answer_of result) }
 {
-    let Place { key, .. } = find_row(alloc, store, table.as_str(), &[], conditions)?;
+    let Target { key, .. } = find_row(alloc, store, table.as_str(), &[], conditions)?;
     edit_row(alloc, store, session, &Edit::Delete { table, key })
 }
 

@@ -1,6 +1,6 @@
 pub mod Tokens
 pub mod Words
 pub mod Reading
-pub mod Stops
+pub mod Faults
 pub use Rattle.cs_value.specs.Value
 pub use Rattle.cs_value.specs.Quoting

@@ -4,7 +4,7 @@ use Rattle.std.specs.Prelude.{Bool, true, false, if◌then◌else◌}
 use Rattle.std.specs.List.{AllByRecursion}
 use Rattle.std.specs.Str.{is_utf8}
 use Rattle.cs_shell_tokens.specs.Tokens.{is_blank, is_word_byte}
-use Rattle.cs_shell_tokens.specs.Stops.{and_then}
+use Rattle.cs_shell_tokens.specs.Faults.{and_then}
 
 -- nothing follows a word, or a blank does
 abbrev pub ends_word : List ℕ → Bool

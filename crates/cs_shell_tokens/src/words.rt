@@ -3,10 +3,10 @@ ghost use Rattle.std.specs.Prelude.{◌≡◌, ◌↔◌, ◌++◌, All, false, 
 ghost use Rattle.std.specs.Str.{bytes_eq};
 ghost use Rattle.cs_shell_tokens.specs.Tokens.{is_blank as blank};
 ghost use Rattle.cs_shell_tokens.specs.Words.{words_of, ends_word, IsSlot, IsNextWord, text_in, slot_in, one_slot_in, no_word_in};
-ghost use Rattle.cs_shell_tokens.specs.Stops.{Reads};
+ghost use Rattle.cs_shell_tokens.specs.Faults.{Reads};
 
 use crate::byte::{is_blank, is_word_byte, skip_blanks};
-use crate::stop::{Stop, misfit_at};
+use crate::fault::{TokenError, misfit_at};
 use std::alloc::Global;
 use std::str;
 
@@ -50,34 +50,34 @@ fn is_slot(word: &[u8]) -> bool
 
 /// Returns the next word, if it is UTF-8.
 #[tactic(auto, unfolding(crate::specs::Words::text_in))]
-pub fn text(alloc: Global, line: &[u8]) -> Result<(String, &[u8]), Stop>
+pub fn text(alloc: Global, line: &[u8]) -> Result<(String, &[u8]), TokenError>
     ensures { Reads result (λ r. (string_bytes r.0, words_of r.1.now)) (text_in (words_of line.now)) }
 {
     let Some((word, rest)) = next_word(line) else {
-        return Err(Stop::Fault(misfit_at(line)));
+        return Err(TokenError::Fault(misfit_at(line)));
     };
     match str::from_utf8(word) {
         Ok(text) => Ok((String::from_str(alloc, text)?, rest)),
-        Err(_) => Err(Stop::Fault(misfit_at(line))),
+        Err(_) => Err(TokenError::Fault(misfit_at(line))),
     }
 }
 
 /// Returns the name of a slot, which is the next word.
 #[tactic(auto, unfolding(crate::specs::Words::slot_in))]
-pub fn slot(alloc: Global, line: &[u8]) -> Result<(String, &[u8]), Stop>
+pub fn slot(alloc: Global, line: &[u8]) -> Result<(String, &[u8]), TokenError>
     ensures { Reads result (λ r. (string_bytes r.0, words_of r.1.now)) (slot_in (words_of line.now)) }
 {
     let (name, rest) = text(alloc, line)?;
     if is_slot(name.as_bytes()) {
         Ok((name, rest))
     } else {
-        Err(Stop::Fault(misfit_at(line)))
+        Err(TokenError::Fault(misfit_at(line)))
     }
 }
 
 /// Returns the name of a slot, which is the last word.
 #[tactic(auto, unfolding(crate::specs::Words::one_slot_in))]
-pub fn one_slot(alloc: Global, line: &[u8]) -> Result<String, Stop>
+pub fn one_slot(alloc: Global, line: &[u8]) -> Result<String, TokenError>
     ensures { Reads result string_bytes (one_slot_in (words_of line.now)) }
 {
     let (name, rest) = slot(alloc, line)?;
@@ -87,11 +87,11 @@ pub fn one_slot(alloc: Global, line: &[u8]) -> Result<String, Stop>
 
 /// Checks that only blanks are left of the line.
 #[tactic(auto, unfolding(crate::specs::Words::no_word_in))]
-pub fn no_word(line: &[u8]) -> Result<(), Stop>
+pub fn no_word(line: &[u8]) -> Result<(), TokenError>
     ensures { Reads result (λ _. tt) (no_word_in (words_of line.now)) }
 {
     match next_word(line) {
         None => Ok(()),
-        Some(_) => Err(Stop::Fault(misfit_at(line))),
+        Some(_) => Err(TokenError::Fault(misfit_at(line))),
     }
 }

@@ -46,9 +46,9 @@ pub adds : (old new : State) (tab key value : List ℕ) (count : ℕ) → HoldsR
 adds old new tab key value count holds h =
     let params = Text tab ∷ Blob key ∷ Blob value ∷ [] in
     let schema = old.now.schema in
-    let place = holds.declares.place in
+    let index = holds.declares.index in
     let w = put_writes true old new params count holds.declares h in
-    let done = went (on_table old new w.tally params place (records_table (records_tree schema)) (put_command place (records_tree schema) true) holds.declares.table w.changed) in
+    let done = went (on_table old new w.tally params index (records_table (records_tree schema)) (put_command index (records_tree schema) true) holds.declares.table w.changed) in
     let now = ap (λ (p : Tally × Database). p.1) (same_value (went (went done.2).2).2) in
     let put = puts_in old.step_limit (mode_of old).keys schema holds.declares tab key value old.now.trees done.0 done.1 in
     edit_sets old.now new.now tab key (Some value) holds (ap (λ (d : Database). d.schema) now) w.sound w.frozen

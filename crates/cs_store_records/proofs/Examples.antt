@@ -64,24 +64,24 @@ Selects schema sql count query = Says sql count (λ its. IsSelectOf its (alone q
 abbrev Commands : Schema → List ℕ → ℕ → Command → Type 0
 Commands schema sql count command = Says sql count (λ its. its ≡ command) (compiled schema sql)
 
--- the statements on a table at this place, with this tree
-record Texts (schema : Schema) (place tree : ℕ) : Type 0 where
+-- the statements on a table at this index, with this tree
+record Texts (schema : Schema) (index tree : ℕ) : Type 0 where
   finds : Selects schema find_text 2 (find_query tree)
   lists : Selects schema list_text 1 (list_query tree)
   scans : Selects schema scan_text 0 (scan_query tree)
-  inserts : Commands schema (put_text true) 3 (put_command place tree true)
-  puts : Commands schema (put_text false) 3 (put_command place tree false)
-  removes : Commands schema remove_text 2 (remove_command place tree)
+  inserts : Commands schema (put_text true) 3 (put_command index tree true)
+  puts : Commands schema (put_text false) 3 (put_command index tree false)
+  removes : Commands schema remove_text 2 (remove_command index tree)
 
-statements : (schema : Schema) (place tree : ℕ) → Texts schema place tree → AreStatements schema place tree
-statements schema place tree t = record {
+statements : (schema : Schema) (index tree : ℕ) → Texts schema index tree → AreStatements schema index tree
+statements schema index tree t = record {
   finds = said schema find_text 2 (λ its. IsSelectOf its (alone (find_query tree))) t.finds;
   lists = said schema list_text 1 (λ its. IsSelectOf its (alone (list_query tree))) t.lists;
   scans = said schema scan_text 0 (λ its. IsSelectOf its (alone (scan_query tree))) t.scans;
   writes = record {
-    inserts = said schema (put_text true) 3 (λ its. its ≡ put_command place tree true) t.inserts;
-    puts = said schema (put_text false) 3 (λ its. its ≡ put_command place tree false) t.puts;
-    removes = said schema remove_text 2 (λ its. its ≡ remove_command place tree) t.removes;
+    inserts = said schema (put_text true) 3 (λ its. its ≡ put_command index tree true) t.inserts;
+    puts = said schema (put_text false) 3 (λ its. its ≡ put_command index tree false) t.puts;
+    removes = said schema remove_text 2 (λ its. its ≡ remove_command index tree) t.removes;
   };
 }
 
@@ -129,7 +129,7 @@ own_apart tree other apart = record { elsewhere = λ named. apart; references = 
 pub alone_declares : DeclaresRecords records_alone
 unfolding same_name
 alone_declares = record {
-  place = 0;
+  index = 0;
   named = refl;
   table = refl;
   stored = omega arith;
@@ -142,7 +142,7 @@ alone_declares = record {
 pub after_declares : DeclaresRecords records_after
 unfolding same_name
 after_declares = record {
-  place = 1;
+  index = 1;
   named = refl;
   table = refl;
   stored = omega arith;

@@ -1,11 +1,11 @@
--- The place of a name in a schema.
+-- The index of a name in a schema.
 use Rattle.std.proofs.Common.{◌≡◌, inl, inr, ℕ, zero, suc, ◌+◌, ◌≤◌, Bool, true, List, [], ◌∷◌, slice_get, Some, None, ap, sym, subst, ◌∙◌, arith}
 use Rattle.std.proofs.lemmas.Bool.{cases_Bool}
 use Rattle.std.specs.List.{position_from}
 use Rattle.std.proofs.lemmas.Option.{slice_get_cases}
 use Rattle.sqlite_rules.proofs.RowLemmas.{position_within}
 
--- where a name is found at a place, something is there
+-- where a name is found at an index, something is there
 pub something_there : {X : Type 0} (p : X → Bool) (xs : List X) (at : ℕ) → position_from p 0 xs ≡ Some at → slice_get xs at ≡ None → ⊥
 something_there p xs at found none =
     let within = position_within p xs 0 at found in
@@ -14,7 +14,7 @@ something_there p xs at found none =
       | inr past ↦ absurd (omega (arith, within, past.0))
     ]
 
--- a place is not below the first
+-- an index is not below the first
 pub place_above : {X : Type 0} (p : X → Bool) (xs : List X) (from at : ℕ) → position_from p from xs ≡ Some at → from ≤ at
 place_above p [] from at is = absurd cc
 place_above p (x ∷ xs) from at is = elim (cases_Bool (p x)) [

@@ -74,19 +74,19 @@ module _ (sql : List ℕ) (tree : ℕ) (terms project : List Term) (order : List
 -- ---- the table of a tree
 
 -- the first table with the tree of records is that of records
-found_from : (tree : ℕ) (it : Table) → it.tree ≡ tree → (tables : List Table) (from place : ℕ) → AllByRecursion (IsApart tree) tables
-    → position_from (λ t. same_name t.name table_name) from tables ≡ Some (from + place) → slice_get tables place ≡ Some it → find (λ t. t.tree == tree) tables ≡ Some it
-found_from tree it own [] from place apart named there = absurd cc
+found_from : (tree : ℕ) (it : Table) → it.tree ≡ tree → (tables : List Table) (from index : ℕ) → AllByRecursion (IsApart tree) tables
+    → position_from (λ t. same_name t.name table_name) from tables ≡ Some (from + index) → slice_get tables index ≡ Some it → find (λ t. t.tree == tree) tables ≡ Some it
+found_from tree it own [] from index apart named there = absurd cc
 found_from tree it own (t ∷ tables) from zero apart named there =
     let same : t ≡ it = cc in
     let tied : (t.tree == tree) ≡ true = eq-eqb t.tree tree (ap (λ (x : Table). x.tree) same ∙ own) in
     rw tied there
-found_from tree it own (t ∷ tables) from (suc place) apart named there = elim (cases_Bool (same_name t.name table_name)) [
-  | inl here ↦ absurd (let same : from ≡ from + suc place = (let e = rw here at named in cc) in omega (arith, same))
+found_from tree it own (t ∷ tables) from (suc index) apart named there = elim (cases_Bool (same_name t.name table_name)) [
+  | inl here ↦ absurd (let same : from ≡ from + suc index = (let e = rw here at named in cc) in omega (arith, same))
   | inr other ↦
       let elsewhere : (t.tree == tree) ≡ false = false_from_ne_true _ (λ tied. apart.0.elsewhere other (eqb-true t.tree tree tied)) in
-      let moved : from + suc place ≡ from + 1 + place = omega arith in
-      rw elsewhere (found_from tree it own tables (from + 1) place apart.1 (subst (λ n. position_from (λ t. same_name t.name table_name) (from + 1) tables ≡ Some n) moved (rw other at named)) there)
+      let moved : from + suc index ≡ from + 1 + index = omega arith in
+      rw elsewhere (found_from tree it own tables (from + 1) index apart.1 (subst (λ n. position_from (λ t. same_name t.name table_name) (from + 1) tables ≡ Some n) moved (rw other at named)) there)
 ]
 
 module _ (schema : Schema) (declares : DeclaresRecords schema) where
@@ -94,7 +94,7 @@ module _ (schema : Schema) (declares : DeclaresRecords schema) where
   tree = records_tree schema
 
   table_found : find (λ t. t.tree == tree) schema.tables ≡ Some (records_table tree)
-  table_found = found_from tree (records_table tree) refl schema.tables zero declares.place (recursion_from_All (IsApart tree) schema.tables declares.apart) (subst (λ n. position_from (λ t. same_name t.name table_name) zero schema.tables ≡ Some n) (omega arith) declares.named) declares.table
+  table_found = found_from tree (records_table tree) refl schema.tables zero declares.index (recursion_from_All (IsApart tree) schema.tables declares.apart) (subst (λ n. position_from (λ t. same_name t.name table_name) zero schema.tables ≡ Some n) (omega arith) declares.named) declares.table
 
   is_stored : nat_le (2 ^ 31) tree ≡ false
   is_stored = lt-leb _ _ declares.stored

@@ -32,10 +32,10 @@ use Rattle.cs_store_records.proofs.StatementLemmas.{on_table, one_edit, went, sa
 module _ (old new : State) (params : Row) (count : ℕ) (declares : DeclaresRecords old.now.schema) where
   -- the removal writes as its command says
   remove_writes : Executes remove_text params old new (Ok count)
-      → Writes old new None (remove_command declares.place (records_tree old.now.schema)) (statement_of remove_text (understood old.now.schema remove_text)) params count
+      → Writes old new None (remove_command declares.index (records_tree old.now.schema)) (statement_of remove_text (understood old.now.schema remove_text)) params count
   remove_writes =
       let its = declares.statements.writes.removes in
-      runs_as remove_text params old new old.now.schema refl (remove_command declares.place (records_tree old.now.schema)) (command_is _ _ _ its) (command_plain _ _ _ its) count
+      runs_as remove_text params old new old.now.schema refl (remove_command declares.index (records_tree old.now.schema)) (command_is _ _ _ its) (command_plain _ _ _ its) count
 
   -- the transaction goes on
   pub remove_goes_on : IsTrue old.in_transaction → Executes remove_text params old new (Ok count) → GoesOn old new
@@ -47,7 +47,7 @@ pub remove_keeps_crash : (params : Row) (old new : State) → (HasCleanDisk old 
 remove_keeps_crash params old new declares = inside_keeps_crash remove_text params old new (λ clean.
     let has = declares clean in
     let its = has.statements.writes.removes in
-    let command = remove_command has.place (records_tree old.now.schema) in
+    let command = remove_command has.index (records_tree old.now.schema) in
     record {
       command = command;
       is = command_is old.now.schema remove_text command its;
@@ -92,9 +92,9 @@ removes old new tab key count holds h =
     let params = Text tab ∷ Blob key ∷ [] in
     let schema = old.now.schema in
     let tree = records_tree schema in
-    let place = holds.declares.place in
+    let index = holds.declares.index in
     let w = remove_writes old new params count holds.declares h in
-    let done = went (on_table old new w.tally params place (records_table tree) (remove_command place tree) holds.declares.table w.changed) in
+    let done = went (on_table old new w.tally params index (records_table tree) (remove_command index tree) holds.declares.table w.changed) in
     let now = ap (λ (p : Tally × Database). p.1) (same_value (went (went done.2).2).2) in
     let found = went done.1 in
     let written = went found.2 in

@@ -124,7 +124,7 @@ row_is (a ∷ b ∷ c ∷ d ∷ []) n typed present number =
 
 -- the table is one of the schema
 pub is_listed : (db : Database) → HoldsRecords db → Has db.schema.tables (records_table (records_tree db.schema))
-is_listed db h = has_got db.schema.tables h.declares.place _ h.declares.table
+is_listed db h = has_got db.schema.tables h.declares.index _ h.declares.table
 
 -- each row passes each rule
 passes_rule : (db : Database) (rule : Constraint) (row : Row) → HoldsRecords db → Has (record_rows db) row
@@ -144,7 +144,7 @@ pub record HaveOneKey (a b : Row) : Type 0 where
   pub tab : content (column a 1) ≡ content (column b 1)
   pub key : content (column a 2) ≡ content (column b 2)
 
--- what holds of each element and each later one, by place and by recursion
+-- what holds of each element and each later one, by index and by recursion
 pub ascending_from_pairs : {X : Type 0} (R : X → X → Type 0) (xs : List X) → AllPairs R xs → IsAscending R xs
 ascending_from_pairs R [] h = tt
 ascending_from_pairs R (x ∷ xs) h =

@@ -134,7 +134,7 @@ unlisted schema table lacks is has =
 
 -- a schema that declares the table does not lack it
 pub not_lacking : (schema : Schema) → LacksRecords schema → DeclaresRecords schema → ⊥
-not_lacking schema lacks declares = unlisted schema _ lacks refl (has_got schema.tables declares.place _ declares.table)
+not_lacking schema lacks declares = unlisted schema _ lacks refl (has_got schema.tables declares.index _ declares.table)
 
 -- all else stays
 made_schema : (old new : Database) → Adds create_text old new → (LacksRecords old.schema) × (new.schema ≡ with_records old.schema)
@@ -268,8 +268,8 @@ others_itself db = record {
 -- what is declared otherwise is not that table, and does not lack its name
 pub not_declared : (schema : Schema) → IsDeclaredOtherwise schema → DeclaresRecords schema → ⊥
 not_declared schema (inl it) declares =
-    let place : it.0 ≡ declares.place = (let both = sym it.2 ∙ declares.named in cc) in
-    let same : it.1 ≡ records_table (records_tree schema) = (let both = sym it.3 ∙ ap (slice_get schema.tables) place ∙ declares.table in cc) in
+    let index : it.0 ≡ declares.index = (let both = sym it.2 ∙ declares.named in cc) in
+    let same : it.1 ≡ records_table (records_tree schema) = (let both = sym it.3 ∙ ap (slice_get schema.tables) index ∙ declares.table in cc) in
     it.4 (same ∙ ap (λ (t : Table). records_table t.tree) (sym same))
 not_declared schema (inr it) declares = absurd (let none = sym it.0 ∙ declares.named in cc)
 
@@ -353,5 +353,5 @@ none_numbered rows none = rw none (record { each = tt; once = λ i j d less most
 -- and the database holds it
 pub made_holds : (old new : Database) → Makes old new → LacksRecords old.schema → DeclaresRecords new.schema → HoldsRecords new × (record_rows new ≡ [])
 made_holds old new made lacks declares =
-    let none = made_empty old new made lacks (records_table (records_tree new.schema)) refl (has_got new.schema.tables declares.place _ declares.table) in
+    let none = made_empty old new made lacks (records_table (records_tree new.schema)) refl (has_got new.schema.tables declares.index _ declares.table) in
     (record { declares = declares; sound = made.sound; numbered = none_numbered _ none }, none)

@@ -25,8 +25,8 @@ use Rattle.cs_store_records.proofs.StatementLemmas.{IsWhole, is_statement, by_di
 
 -- the command of a statement on the table of records
 abbrev command_in : (schema : Schema) → DeclaresRecords schema → Statement → Command
-command_in schema declares (puts is_new tab key value) = put_command declares.place (records_tree schema) is_new
-command_in schema declares (removes tab key) = remove_command declares.place (records_tree schema)
+command_in schema declares (puts is_new tab key value) = put_command declares.index (records_tree schema) is_new
+command_in schema declares (removes tab key) = remove_command declares.index (records_tree schema)
 
 is_command : (schema : Schema) (declares : DeclaresRecords schema) (s : Statement) → IsCommand schema (text_in s) (length (params_in s)) (command_in schema declares s)
 is_command schema declares (puts is_new tab key value) = puts_as schema declares is_new

@@ -84,30 +84,30 @@ IsOfKey tree index = IsTrue index.is_unique → index.table ≡ tree → index.c
 -- The schema declares the table of records. Its tree is stored, not computed by a statement. Each text is its statement
 -- on that table.
 pub record DeclaresRecords (schema : Schema) : Type 0 where
-  pub place : ℕ
-  pub named : table_named schema table_name ≡ Some place
-  pub table : slice_get schema.tables place ≡ Some (records_table (records_tree schema))
+  pub index : ℕ
+  pub named : table_named schema table_name ≡ Some index
+  pub table : slice_get schema.tables index ≡ Some (records_table (records_tree schema))
   pub stored : records_tree schema < 2 ^ 31
   pub apart : All (IsApart (records_tree schema)) schema.tables
   pub keyed : All (IsOfKey (records_tree schema)) schema.indexes
-  pub statements : AreStatements schema place (records_tree schema)
+  pub statements : AreStatements schema index (records_tree schema)
 
 -- a table that has the name is declared otherwise, or no table has it and a view does
 abbrev pub IsDeclaredOtherwise : Schema → Type 0
 IsDeclaredOtherwise schema =
-    ((place : ℕ) × (table : Table) × (table_named schema table_name ≡ Some place) × (slice_get schema.tables place ≡ Some table)
+    ((index : ℕ) × (table : Table) × (table_named schema table_name ≡ Some index) × (slice_get schema.tables index ≡ Some table)
     × (table ≢ records_table table.tree))
-    ⊎ ((table_named schema table_name ≡ None) × (place : ℕ) × (view : View) × (view_named schema table_name ≡ Some place)
-    × (slice_get schema.views place ≡ Some view) × (view.foreign ≡ None))
+    ⊎ ((table_named schema table_name ≡ None) × (index : ℕ) × (view : View) × (view_named schema table_name ≡ Some index)
+    × (slice_get schema.views index ≡ Some view) × (view.foreign ≡ None))
 
 -- Why a table that is declared as that of records is not used. A statement computes its tree, another table shares that
 -- or refers to the table, an index compares its keys in another way, or a text is another statement on it.
 abbrev pub IsBarred : Schema → ℕ → ℕ → Type 0
-IsBarred schema place tree =
+IsBarred schema index tree =
     (2 ^ 31 ≤ tree)
     ⊎ ((¬ All (IsApart tree) schema.tables)
     ⊎ ((¬ All (IsOfKey tree) schema.indexes)
-    ⊎ (¬ AreStatements schema place tree)))
+    ⊎ (¬ AreStatements schema index tree)))
 
 -- No statement reaches a table of the name, and the name is not free. An index has it, or something that the database
 -- keeps as it is: an index or a trigger of this name; or a table that has a trigger, an index on some of its rows or on
@@ -116,15 +116,15 @@ abbrev pub IsOutOfReach : Schema → Type 0
 IsOutOfReach schema =
     (table_named schema table_name ≡ None)
     × (IsSome (index_named schema table_name)
-    ⊎ ((place : ℕ) × (view : View) × (view_named schema table_name ≡ Some place) × (slice_get schema.views place ≡ Some view)
+    ⊎ ((index : ℕ) × (view : View) × (view_named schema table_name ≡ Some index) × (slice_get schema.views index ≡ Some view)
     × IsSome view.foreign))
 
 -- why the statements on records cannot be used under the schema
 abbrev pub IsUnsupported : Schema → Type 0
 IsUnsupported schema =
     IsOutOfReach schema
-    ⊎ ((place : ℕ) × (table : Table) × (table_named schema table_name ≡ Some place) × (slice_get schema.tables place ≡ Some table)
-    × (table ≡ records_table table.tree) × IsBarred schema place table.tree)
+    ⊎ ((index : ℕ) × (table : Table) × (table_named schema table_name ≡ Some index) × (slice_get schema.tables index ≡ Some table)
+    × (table ≡ records_table table.tree) × IsBarred schema index table.tree)
 
 -- nothing has the name of the table
 abbrev pub LacksRecords : Schema → Type 0

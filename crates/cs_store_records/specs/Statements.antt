@@ -121,17 +121,17 @@ update_query tree = plain_query tree (equals (col 1 0) (col 0 3) ∷ []) (col 1 
 abbrev pub clause : ℕ → Upsert
 clause tree = record { target = Some (1 ∷ 2 ∷ []); update = Some (alone (update_query tree)) }
 
--- the table has this place in the schema, and this tree
+-- the table has this index in the schema, and this tree
 abbrev pub put_command : ℕ → ℕ → Bool → Command
-put_command place tree true = Insert place source
-put_command place tree false = InsertOr place Abort source (clause tree ∷ [])
+put_command index tree true = Insert index source
+put_command index tree false = InsertOr index Abort source (clause tree ∷ [])
 
 -- the numbers of the rows that are removed
 abbrev pub key_query : ℕ → Query
 key_query tree = plain_query tree at_key (col 1 0 ∷ []) []
 
 abbrev pub remove_command : ℕ → ℕ → Command
-remove_command place tree = Delete place (alone (key_query tree))
+remove_command index tree = Delete index (alone (key_query tree))
 
 -- ---- under a schema
 

@@ -31,7 +31,7 @@ pub(crate) struct Shape<'a> {
     pub order: &'a [usize],
 }
 
-/// Whether the node at this place is this column.
+/// Whether the node at this index is this column.
 fn is_column(nodes: &[Node<'_>], depth: usize, at: usize, slot: usize, column: usize) -> bool
     ensures { IsTrue result ↔ (term_at nodes.now depth at ≡ col slot column) }
 {
@@ -42,7 +42,7 @@ fn is_column(nodes: &[Node<'_>], depth: usize, at: usize, slot: usize, column: u
     }
 }
 
-/// Whether the node at this place tests this column of the row for this parameter.
+/// Whether the node at this index tests this column of the row for this parameter.
 fn is_equality(nodes: &[Node<'_>], depth: usize, at: usize, column: usize, param: usize) -> bool
     ensures { IsTrue result ↔ (term_at nodes.now depth at ≡ equals (col 1 column) (col 0 param)) }
 {
@@ -55,7 +55,7 @@ fn is_equality(nodes: &[Node<'_>], depth: usize, at: usize, column: usize, param
     }
 }
 
-/// Whether the node at this place is NULL.
+/// Whether the node at this index is NULL.
 fn is_null(nodes: &[Node<'_>], at: usize) -> bool
     ensures { IsTrue result ↔ (term_of nodes.now at ≡ expected_term Expected.Null) }
 {
@@ -63,7 +63,7 @@ fn is_null(nodes: &[Node<'_>], at: usize) -> bool
     matches!(node, Node::Literal(ValueRef::Null))
 }
 
-/// Whether the node at this place is this number.
+/// Whether the node at this index is this number.
 fn is_number(nodes: &[Node<'_>], at: usize, number: i64) -> bool
     ensures { IsTrue result ↔ (term_of nodes.now at ≡ lit (Number number)) }
 {

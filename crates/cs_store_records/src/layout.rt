@@ -30,24 +30,24 @@ pub enum Declaration {
 pub fn declaration_of(alloc: Global, schema: &Schema) -> Result<Declaration, AllocError>
     ensures { IfOk result (IsDeclaration schema.now) }
 {
-    let Some(place) = schema.table_named(b"rec") else {
+    let Some(index) = schema.table_named(b"rec") else {
         return Ok(without_table(schema));
     };
-    match schema.tables.get(place) {
-        Some(table) => declared_at(alloc, schema, place, table),
+    match schema.tables.get(index) {
+        Some(table) => declared_at(alloc, schema, index, table),
         None => unreachable!(),
     }
 }
 
-/// Returns what a database declares that has this table at this place, with the name of the table of records.
+/// Returns what a database declares that has this table at this index, with the name of the table of records.
 fn declared_at(
     alloc: Global,
     schema: &Schema,
-    place: usize,
+    index: usize,
     table: &Table,
 ) -> Result<Declaration, AllocError>
-    requires named { table_named schema.now table_name ≡ Some place }
-    requires there { slice_get schema.now.tables place ≡ Some table.now }
+    requires named { table_named schema.now table_name ≡ Some index }
+    requires there { slice_get schema.now.tables index ≡ Some table.now }
     ensures { IfOk result (IsDeclaration schema.now) }
 {
     if !is_declared_as_records(table) {
@@ -56,7 +56,7 @@ fn declared_at(
     if !is_apart(schema, table.tree) {
         return Ok(Declaration::Unsupported);
     }
-    if are_statements(alloc, schema, place, table.tree)? {
+    if are_statements(alloc, schema, index, table.tree)? {
         Ok(Declaration::Records)
     } else {
         Ok(Declaration::Unsupported)
@@ -80,7 +80,7 @@ fn without_table(schema: &Schema) -> Declaration
     }
 }
 
-/// Returns what a database declares that has this view at this place, with the name of the table of records.
+/// Returns what a database declares that has this view at this index, with the name of the table of records.
 fn declared_by(schema: &Schema, at: usize, view: &View) -> Declaration
     requires lacks { table_named schema.now table_name ≡ None }
     requires named { view_named schema.now table_name ≡ Some at }
@@ -98,7 +98,7 @@ fn declared_by(schema: &Schema, at: usize, view: &View) -> Declaration
 fn is_apart(schema: &Schema, tree: u32) -> bool
     ensures apart { IsTrue result → (tree < 2 ^ 31) × All (IsApart tree) schema.now.tables
         × All (IsOfKey tree) schema.now.indexes }
-    ensures barred { (place : ℕ) → result ≡ false → IsBarred schema.now place tree }
+    ensures barred { (index : ℕ) → result ≡ false → IsBarred schema.now index tree }
 {
     // Trees from 2^31 on are computed by a statement.
     tree < 0x8000_0000

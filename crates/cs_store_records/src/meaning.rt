@@ -99,11 +99,11 @@ fn is_source(alloc: Global, rows: &Source) -> Result<bool, AllocError>
 }
 
 /// Whether the command inserts a record.
-fn is_insert(alloc: Global, command: &Command, place: usize) -> Result<bool, AllocError>
-    ensures { IfOk result (λ yes. IsTrue yes ↔ (command.now ≡ put_command place 0 true)) }
+fn is_insert(alloc: Global, command: &Command, index: usize) -> Result<bool, AllocError>
+    ensures { IfOk result (λ yes. IsTrue yes ↔ (command.now ≡ put_command index 0 true)) }
 {
     match command {
-        Command::Insert(at, rows) => Ok(*at == place && is_source(alloc, rows)?),
+        Command::Insert(at, rows) => Ok(*at == index && is_source(alloc, rows)?),
         _ => Ok(false),
     }
 }
@@ -133,8 +133,8 @@ fn is_clause(alloc: Global, upsert: &Upsert, tree: u32) -> Result<bool, AllocErr
 }
 
 /// Whether the command inserts a record, or replaces the value of the one that is there.
-fn is_put(alloc: Global, command: &Command, place: usize, tree: u32) -> Result<bool, AllocError>
-    ensures { IfOk result (λ yes. IsTrue yes ↔ (command.now ≡ put_command place tree false)) }
+fn is_put(alloc: Global, command: &Command, index: usize, tree: u32) -> Result<bool, AllocError>
+    ensures { IfOk result (λ yes. IsTrue yes ↔ (command.now ≡ put_command index tree false)) }
 {
     let Command::InsertOr(at, Conflict::Abort, rows, clauses) = command else {
         return Ok(false);
@@ -142,12 +142,12 @@ fn is_put(alloc: Global, command: &Command, place: usize, tree: u32) -> Result<b
     let [upsert] = clauses.as_slice() else {
         return Ok(false);
     };
-    Ok(*at == place && is_source(alloc, rows)? && is_clause(alloc, upsert, tree)?)
+    Ok(*at == index && is_source(alloc, rows)? && is_clause(alloc, upsert, tree)?)
 }
 
 /// Whether the command removes the record with a name and a key.
-fn is_remove(alloc: Global, command: &Command, place: usize, tree: u32) -> Result<bool, AllocError>
-    ensures { IfOk result (λ yes. IsTrue yes ↔ (command.now ≡ remove_command place tree)) }
+fn is_remove(alloc: Global, command: &Command, index: usize, tree: u32) -> Result<bool, AllocError>
+    ensures { IfOk result (λ yes. IsTrue yes ↔ (command.now ≡ remove_command index tree)) }
 {
     let shape = Shape {
         filter: &[Expected::Equal(1, 0), Expected::Equal(2, 1)],
@@ -156,7 +156,7 @@ fn is_remove(alloc: Global, command: &Command, place: usize, tree: u32) -> Resul
     };
     match command {
         Command::Delete(at, program) => {
-            Ok(*at == place && is_program(alloc, program, tree, &shape)?)
+            Ok(*at == index && is_program(alloc, program, tree, &shape)?)
         }
         _ => Ok(false),
     }
@@ -171,21 +171,21 @@ enum Meant<'a> {
     Remove,
 }
 
-/// Whether the command is that one, on the table with this place and this tree.
+/// Whether the command is that one, on the table with this index and this tree.
 fn is_meant(
     alloc: Global,
     command: &Command,
-    place: usize,
+    index: usize,
     tree: u32,
     meant: Meant<'_>,
 ) -> Result<bool, AllocError>
-    ensures { IfOk result (λ yes. IsTrue yes ↔ IsMeant command.now place tree meant.entry) }
+    ensures { IfOk result (λ yes. IsTrue yes ↔ IsMeant command.now index tree meant.entry) }
 {
     match meant {
         Meant::Select(shape) => is_select(alloc, command, tree, shape),
-        Meant::Insert => is_insert(alloc, command, place),
-        Meant::Put => is_put(alloc, command, place, tree),
-        Meant::Remove => is_remove(alloc, command, place, tree),
+        Meant::Insert => is_insert(alloc, command, index),
+        Meant::Put => is_put(alloc, command, index, tree),
+        Meant::Remove => is_remove(alloc, command, index, tree),
     }
 }
 
@@ -195,17 +195,17 @@ fn is_statement(
     schema: &Schema,
     sql: &str,
     count: usize,
-    place: usize,
+    index: usize,
     tree: u32,
     meant: Meant<'_>,
 ) -> Result<bool, AllocError>
     ensures { IfOk result (λ yes. IsTrue yes
-        ↔ IsStatement schema.now sql.now count (λ command. IsMeant command place tree meant.entry)) }
+        ↔ IsStatement schema.now sql.now count (λ command. IsMeant command index tree meant.entry)) }
 {
     let Some(it) = plain_statement(alloc, schema, sql, count)? else {
         return Ok(false);
     };
-    let is_it = is_meant(alloc, &it.command, place, tree, meant);
+    let is_it = is_meant(alloc, &it.command, index, tree, meant);
     drop(it);
     is_it
 }
@@ -276,31 +276,31 @@ fn scans(alloc: Global, schema: &Schema, tree: u32) -> Result<bool, AllocError>
 }
 
 /// Whether the texts that write records do so.
-fn are_writes(alloc: Global, schema: &Schema, place: usize, tree: u32) -> Result<bool, AllocError>
-    ensures { IfOk result (λ yes. IsTrue yes ↔ AreWrites schema.now place tree) }
+fn are_writes(alloc: Global, schema: &Schema, index: usize, tree: u32) -> Result<bool, AllocError>
+    ensures { IfOk result (λ yes. IsTrue yes ↔ AreWrites schema.now index tree) }
 {
     Ok(
-        is_statement(alloc, schema, texts::INSERT, 3, place, tree, Meant::Insert)?
-            && is_statement(alloc, schema, texts::PUT, 3, place, tree, Meant::Put)?
-            && is_statement(alloc, schema, texts::REMOVE, 2, place, tree, Meant::Remove)?,
+        is_statement(alloc, schema, texts::INSERT, 3, index, tree, Meant::Insert)?
+            && is_statement(alloc, schema, texts::PUT, 3, index, tree, Meant::Put)?
+            && is_statement(alloc, schema, texts::REMOVE, 2, index, tree, Meant::Remove)?,
     )
 }
 
-/// Whether each text is, under the schema, the statement that it is meant to be, on the table with this place and this
+/// Whether each text is, under the schema, the statement that it is meant to be, on the table with this index and this
 /// tree.
 pub(crate) fn are_statements(
     alloc: Global,
     schema: &Schema,
-    place: usize,
+    index: usize,
     tree: u32,
 ) -> Result<bool, AllocError>
-    ensures { IfOk result (λ yes. IsTrue yes ↔ AreStatements schema.now place tree) }
+    ensures { IfOk result (λ yes. IsTrue yes ↔ AreStatements schema.now index tree) }
 {
     Ok(
         finds(alloc, schema, tree)?
             && lists(alloc, schema, tree)?
             && scans(alloc, schema, tree)?
-            && are_writes(alloc, schema, place, tree)?,
+            && are_writes(alloc, schema, index, tree)?,
     )
 }
 

@@ -10,7 +10,7 @@ use Rattle.std.proofs.lemmas.List.Elements.{All-push, All-nil, All-map}
 use Rattle.std.proofs.lemmas.List.{map-append, take_more, length-take-le, get_or-map, get_or_at, get_or_append_left, length-map, length-append}
 use Rattle.std.proofs.lemmas.Option.{none-some, same_Some, slice_get_within, slice_get-get_or, get_or_from_slice_get}
 use Rattle.cs_value.specs.Maps.{ByBytes}
-use Rattle.cs_wire_entries.specs.Views.{IsPlaceOf, IsIndex}
+use Rattle.cs_wire_entries.specs.Views.{IsIndexWhere, IsIndex}
 use Rattle.cs_wire.specs.Walk.{Knows}
 
 -- whether two texts are one
@@ -26,91 +26,91 @@ not_same s t e is =
     let no : same s s ≡ false = ap (same s) (sym is) ∙ e in
     cc
 
--- no text has a place
+-- no text has an index
 pub IsIndex-none : IsIndex empty []
 IsIndex-none = record {
-  found = λ text place e. absurd (none-some place (sym (get-empty (slice_cmp nat_cmp) text) ∙ e));
+  found = λ text index e. absurd (none-some index (sym (get-empty (slice_cmp nat_cmp) text) ∙ e));
   absent = λ text e. All-nil (λ t. t ≢ text);
 }
 
-slice_get_left : (texts : List (List ℕ)) (last text : List ℕ) (place : ℕ) → slice_get texts place ≡ Some text → slice_get (texts ++ last ∷ []) place ≡ Some text
-slice_get_left texts last text place e =
-    let within = slice_get_within texts place text e in
-    slice_get-get_or (texts ++ last ∷ []) place [] (omega (arith, length-append texts (last ∷ [])))
-    ∙ ap Some (get_or_append_left texts (last ∷ []) [] place within ∙ get_or_from_slice_get texts place text [] e)
+slice_get_left : (texts : List (List ℕ)) (last text : List ℕ) (index : ℕ) → slice_get texts index ≡ Some text → slice_get (texts ++ last ∷ []) index ≡ Some text
+slice_get_left texts last text index e =
+    let within = slice_get_within texts index text e in
+    slice_get-get_or (texts ++ last ∷ []) index [] (omega (arith, length-append texts (last ∷ [])))
+    ∙ ap Some (get_or_append_left texts (last ∷ []) [] index within ∙ get_or_from_slice_get texts index text [] e)
 
 slice_get_last : (texts : List (List ℕ)) (last : List ℕ) → slice_get (texts ++ last ∷ []) (length texts) ≡ Some last
 slice_get_last texts last =
     slice_get-get_or (texts ++ last ∷ []) (length texts) [] (omega (arith, length-append texts (last ∷ [])))
     ∙ ap Some (get_or_at texts last [] [] (length texts) refl)
 
--- one more text has the next place, also where it is there
-pub IsIndex-push : (places : ByBytes ℕ) (texts : List (List ℕ)) (last : List ℕ) → IsIndex places texts → IsIndex (insert places last (length texts)) (texts ++ last ∷ [])
-IsIndex-push places texts last index = record {
-  found = λ text place e. found_by text place (same text last) refl (sym (got text) ∙ e);
+-- one more text has the next index, also where it is there
+pub IsIndex-push : (indices : ByBytes ℕ) (texts : List (List ℕ)) (last : List ℕ) → IsIndex indices texts → IsIndex (insert indices last (length texts)) (texts ++ last ∷ [])
+IsIndex-push indices texts last index = record {
+  found = λ text index e. found_by text index (same text last) refl (sym (got text) ∙ e);
   absent = λ text e. absent_by text (same text last) refl (sym (got text) ∙ e);
 }
   where
-    got : (text : List ℕ) → get (insert places last (length texts)) text ≡ cond (same text last) (Some (length texts)) (get places text)
-    got text = get-insert nat_list_cmp_total places last (length texts) text
+    got : (text : List ℕ) → get (insert indices last (length texts)) text ≡ cond (same text last) (Some (length texts)) (get indices text)
+    got text = get-insert nat_list_cmp_total indices last (length texts) text
 
-    found_by : (text : List ℕ) (place : ℕ) (b : Bool) → same text last ≡ b → cond b (Some (length texts)) (get places text) ≡ Some place
-        → slice_get (texts ++ last ∷ []) place ≡ Some text
-    found_by text place true is e =
-        let at : length texts ≡ place = same_Some (length texts) place e in
+    found_by : (text : List ℕ) (index : ℕ) (b : Bool) → same text last ≡ b → cond b (Some (length texts)) (get indices text) ≡ Some index
+        → slice_get (texts ++ last ∷ []) index ≡ Some text
+    found_by text index true is e =
+        let at : length texts ≡ index = same_Some (length texts) index e in
         subst (λ (p : ℕ). slice_get (texts ++ last ∷ []) p ≡ Some text) at (slice_get_last texts last ∙ ap Some (sym (same_is text last is)))
-    found_by text place false is e = slice_get_left texts last text place (index.found text place e)
+    found_by text index false is e = slice_get_left texts last text index (index.found text index e)
 
-    absent_by : (text : List ℕ) (b : Bool) → same text last ≡ b → cond b (Some (length texts)) (get places text) ≡ None → All (λ t. t ≢ text) (texts ++ last ∷ [])
+    absent_by : (text : List ℕ) (b : Bool) → same text last ≡ b → cond b (Some (length texts)) (get indices text) ≡ None → All (λ t. t ≢ text) (texts ++ last ∷ [])
     absent_by text true is e = absurd (none-some (length texts) (sym e))
     absent_by text false is e = All-push (λ (t : List ℕ). t ≢ text) texts last (index.absent text e) (not_same text last is)
 
 -- what is found among things that are known by a text
-module _ {X : Type 0} (text_of : X → List ℕ) (places : ByBytes ℕ) (xs : List X) (text : List ℕ) (index : IsIndex places (map text_of xs)) where
-  at_place : (place : ℕ) → slice_get (map text_of xs) place ≡ Some text → IsPlaceOf (λ x. text_of x ≡ text) xs place
-  at_place place e = record {
-    within = omega (arith, slice_get_within (map text_of xs) place text e, length-map xs text_of);
+module _ {X : Type 0} (text_of : X → List ℕ) (indices : ByBytes ℕ) (xs : List X) (text : List ℕ) (index : IsIndex indices (map text_of xs)) where
+  at_place : (index : ℕ) → slice_get (map text_of xs) index ≡ Some text → IsIndexWhere (λ x. text_of x ≡ text) xs index
+  at_place index e = record {
+    within = omega (arith, slice_get_within (map text_of xs) index text e, length-map xs text_of);
     holds = λ d.
-        let within : place < length xs = omega (arith, slice_get_within (map text_of xs) place text e, length-map xs text_of) in
-        sym (get_or-map text_of xs place d [] within) ∙ get_or_from_slice_get (map text_of xs) place text [] e;
+        let within : index < length xs = omega (arith, slice_get_within (map text_of xs) index text e, length-map xs text_of) in
+        sym (get_or-map text_of xs index d [] within) ∙ get_or_from_slice_get (map text_of xs) index text [] e;
   }
 
-  is_known : (ys : List X) (place : ℕ) → IsPlaceOf (λ x. text_of x ≡ text) ys place → All (λ x. text_of x ≢ text) ys → ⊥
-  is_known [] place at new = absurd (omega (arith, at.within))
-  is_known (y ∷ ys) place at new = new place y at.within (at.holds y)
+  is_known : (ys : List X) (index : ℕ) → IsIndexWhere (λ x. text_of x ≡ text) ys index → All (λ x. text_of x ≢ text) ys → ⊥
+  is_known [] index at new = absurd (omega (arith, at.within))
+  is_known (y ∷ ys) index at new = new index y at.within (at.holds y)
 
-  pub is_found : (found : Option ℕ) → found ≡ get places text → IfSome found (IsPlaceOf (λ x. text_of x ≡ text) xs)
+  pub is_found : (found : Option ℕ) → found ≡ get indices text → IfSome found (IsIndexWhere (λ x. text_of x ≡ text) xs)
   is_found None e = tt
-  is_found (Some place) e = at_place place (index.found text place (sym e))
+  is_found (Some index) e = at_place index (index.found text index (sym e))
 
   -- nothing is found just where the text is new
-  pub is_new : (found : Option ℕ) → found ≡ get places text → IsTrue (is_none found) ↔ All (λ x. text_of x ≢ text) xs
+  pub is_new : (found : Option ℕ) → found ≡ get indices text → IsTrue (is_none found) ↔ All (λ x. text_of x ≢ text) xs
   is_new None e =
       let none = index.absent text (sym e) in
       (λ h k d lt known. none k [] (omega (arith, length-map xs text_of)) (get_or-map text_of xs k d [] lt ∙ known), λ h. refl)
-  is_new (Some place) e = (λ h. absurd cc, λ h. absurd (is_known xs place (at_place place (index.found text place (sym e))) h))
+  is_new (Some index) e = (λ h. absurd cc, λ h. absurd (is_known xs index (at_place index (index.found text index (sym e))) h))
 
--- one more thing has the next place
-pub IsIndex-grown : {X : Type 0} (text_of : X → List ℕ) (places new : ByBytes ℕ) (xs : List X) (x : X) (text : List ℕ) (place : ℕ)
-    → IsIndex places (map text_of xs) → text_of x ≡ text → place ≡ length xs → new ≡ insert places text place
+-- one more thing has the next index
+pub IsIndex-grown : {X : Type 0} (text_of : X → List ℕ) (indices new : ByBytes ℕ) (xs : List X) (x : X) (text : List ℕ) (index : ℕ)
+    → IsIndex indices (map text_of xs) → text_of x ≡ text → index ≡ length xs → new ≡ insert indices text index
     → IsIndex new (map text_of (xs ++ x ∷ []))
-IsIndex-grown text_of places new xs x text place index is at grown =
-    let pushed = IsIndex-push places (map text_of xs) text index in
+IsIndex-grown text_of indices new xs x text index index is at grown =
+    let pushed = IsIndex-push indices (map text_of xs) text index in
     let texts : map text_of (xs ++ x ∷ []) ≡ map text_of xs ++ text ∷ [] = map-append text_of xs (x ∷ []) ∙ ap (λ (t : List ℕ). map text_of xs ++ t ∷ []) is in
-    let after : new ≡ insert places text (length (map text_of xs)) = grown ∙ ap (insert places text) (at ∙ sym (length-map xs text_of)) in
+    let after : new ≡ insert indices text (length (map text_of xs)) = grown ∙ ap (insert indices text) (at ∙ sym (length-map xs text_of)) in
     rw (texts, after) pushed
 
 -- the first things of a list, and one more
-pub IsIndex-more : {X : Type 0} (text_of : X → List ℕ) (places new : ByBytes ℕ) (xs : List X) (x : X) (i : ℕ)
-    → i < length xs → x ≡ get_or xs i x → IsIndex places (map text_of (take i xs)) → new ≡ insert places (text_of x) i → IsIndex new (map text_of (take (i + 1) xs))
-IsIndex-more text_of places new xs x i lt is index grown =
+pub IsIndex-more : {X : Type 0} (text_of : X → List ℕ) (indices new : ByBytes ℕ) (xs : List X) (x : X) (i : ℕ)
+    → i < length xs → x ≡ get_or xs i x → IsIndex indices (map text_of (take i xs)) → new ≡ insert indices (text_of x) i → IsIndex new (map text_of (take (i + 1) xs))
+IsIndex-more text_of indices new xs x i lt is index grown =
     let count : length (take i xs) ≡ i = length-take-le i xs (omega arith) in
-    rw (take_more xs i x lt, ← is) (IsIndex-grown text_of places new (take i xs) x (text_of x) i index refl (sym count) grown)
+    rw (take_more xs i x lt, ← is) (IsIndex-grown text_of indices new (take i xs) x (text_of x) i index refl (sym count) grown)
 
 -- what is found is not new
 pub found_or_new : (found : Option ℕ) → is_some found ≡ true → IsTrue (is_none found) → ⊥
 found_or_new None some none = cc
-found_or_new (Some place) some none = cc
+found_or_new (Some index) some none = cc
 
 -- ---- texts that are known
 
@@ -149,30 +149,30 @@ module _ {X : Type 0} (text_of : X → List ℕ) (seen : List (List ℕ)) (xs : 
   pub Knows-new : All (λ t. t ≢ text) seen → All (λ x. text_of x ≢ text) xs
   Knows-new none = λ k d lt known. (so text).0 none k [] (omega (arith, length-map xs text_of, lt)) (get_or-map text_of xs k d [] lt ∙ known)
 
--- ---- texts that are given places one after another
+-- ---- texts that are given indices one after another
 
--- of these texts so many have their places, and the others are left
-pub record IsIndexed (texts left : List (List ℕ)) (places : ByBytes ℕ) (place : ℕ) : Type 0 where
+-- of these texts so many have their indices, and the others are left
+pub record IsIndexed (texts left : List (List ℕ)) (indices : ByBytes ℕ) (index : ℕ) : Type 0 where
   pub before : List (List ℕ)
   pub whole : texts ≡ before ++ left
-  pub count : place ≡ length before
-  pub index : IsIndex places before
+  pub count : index ≡ length before
+  pub index : IsIndex indices before
 
-pub IsIndexed-none : (texts left : List (List ℕ)) (places : ByBytes ℕ) → left ≡ texts → places ≡ empty → IsIndexed texts left places 0
-IsIndexed-none texts left places all none = record { before = []; whole = sym all; count = refl; index = rw none IsIndex-none }
+pub IsIndexed-none : (texts left : List (List ℕ)) (indices : ByBytes ℕ) → left ≡ texts → indices ≡ empty → IsIndexed texts left indices 0
+IsIndexed-none texts left indices all none = record { before = []; whole = sym all; count = refl; index = rw none IsIndex-none }
 
-pub IsIndexed-next : (texts left others : List (List ℕ)) (places new : ByBytes ℕ) (place : ℕ) (text : List ℕ) → IsIndexed texts left places place → left ≡ text ∷ others
-    → new ≡ insert places text place → IsIndexed texts others new (place + 1)
-IsIndexed-next texts left others places new place text so is grown = record {
+pub IsIndexed-next : (texts left others : List (List ℕ)) (indices new : ByBytes ℕ) (index : ℕ) (text : List ℕ) → IsIndexed texts left indices index → left ≡ text ∷ others
+    → new ≡ insert indices text index → IsIndexed texts others new (index + 1)
+IsIndexed-next texts left others indices new index text so is grown = record {
   before = so.before ++ text ∷ [];
   whole = so.whole ∙ ap (λ (l : List (List ℕ)). so.before ++ l) is ∙ sym (append_assoc so.before (text ∷ []) others);
   count = omega (arith, so.count, length-append so.before (text ∷ []));
-  index = rw (grown, so.count) (IsIndex-push places so.before text so.index);
+  index = rw (grown, so.count) (IsIndex-push indices so.before text so.index);
 }
 
-pub IsIndexed-all : (texts left : List (List ℕ)) (places : ByBytes ℕ) (place : ℕ) → IsIndexed texts left places place → left ≡ [] → IsIndex places texts
-IsIndexed-all texts left places place so none = rw (so.whole ∙ ap (λ (l : List (List ℕ)). so.before ++ l) none ∙ append-nil so.before) so.index
+pub IsIndexed-all : (texts left : List (List ℕ)) (indices : ByBytes ℕ) (index : ℕ) → IsIndexed texts left indices index → left ≡ [] → IsIndex indices texts
+IsIndexed-all texts left indices index so none = rw (so.whole ∙ ap (λ (l : List (List ℕ)). so.before ++ l) none ∙ append-nil so.before) so.index
 
--- no more texts have places than there are
-pub IsIndexed-within : (texts left : List (List ℕ)) (places : ByBytes ℕ) (place : ℕ) → IsIndexed texts left places place → place ≤ length texts
-IsIndexed-within texts left places place so = omega (arith, so.count, ap length so.whole, length-append so.before left)
+-- no more texts have indices than there are
+pub IsIndexed-within : (texts left : List (List ℕ)) (indices : ByBytes ℕ) (index : ℕ) → IsIndexed texts left indices index → index ≤ length texts
+IsIndexed-within texts left indices index so = omega (arith, so.count, ap length so.whole, length-append so.before left)

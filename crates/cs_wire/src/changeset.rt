@@ -1,10 +1,10 @@
 //! Changesets: the changes of several tables.
 ghost use Rattle.std.specs.Prelude.{◌≡◌, ◌++◌, ◌∷◌, [], ◌↔◌, IfOk, IfSome, IsTrue, OnOk, OnErr, is_none};
-ghost use Rattle.cs_wire_entries.specs.Views.{IsPlaceOf, IsIndex, group_names};
+ghost use Rattle.cs_wire_entries.specs.Views.{IsIndexWhere, IsIndex, group_names};
 ghost use Rattle.cs_wire_entries.specs.Changeset.{IsNewName, IsChangeset};
 
 use crate::group::Group;
-use crate::places::Places;
+use crate::indices::Indices;
 use cs_value::NoMemory;
 use std::alloc::Global;
 use std::marker::Model;
@@ -13,8 +13,8 @@ use std::marker::Model;
 #[derive(Debug, Drop)]
 pub struct Changeset {
     groups: Vec<Group>,
-    // The place of the group of each table, by its name.
-    places: Places,
+    // The index of the group of each table, by its name.
+    indices: Indices,
 }
 
 impl Model for Changeset {
@@ -26,7 +26,7 @@ impl Model for Changeset {
 
     ghost view = { λ c. c.groups.items };
 
-    ghost invariant = { λ c. IsChangeset c.groups.items × IsIndex c.places (group_names c.groups.items) };
+    ghost invariant = { λ c. IsChangeset c.groups.items × IsIndex c.indices (group_names c.groups.items) };
 }
 
 impl Changeset {
@@ -36,7 +36,7 @@ impl Changeset {
     {
         Changeset {
             groups: Vec::new(alloc),
-            places: Places::new(alloc),
+            indices: Indices::new(alloc),
         }
     }
 
@@ -46,8 +46,8 @@ impl Changeset {
         ensures made { IfOk result (λ c. c ≡ groups.items) }
         ensures well_formed { IfOk result IsChangeset }
     {
-        let places = places_of(alloc, &groups)?;
-        Ok(Changeset { groups, places })
+        let indices = indices_of(alloc, &groups)?;
+        Ok(Changeset { groups, indices })
     }
 
     /// Returns the groups, in the order of the file.
@@ -58,13 +58,13 @@ impl Changeset {
         &self.groups
     }
 
-    /// Returns the zero-based place of the group of a table, or None if there is none. It allocates nothing, and takes
+    /// Returns the zero-based index of the group of a table, or None if there is none. It allocates nothing, and takes
     /// time in proportion to the logarithm of the number of groups.
     pub fn find(&self, name: &str) -> Option<usize>
-        ensures found { IfSome result (IsPlaceOf (λ g. g.header.name ≡ name.now) self.now) }
+        ensures found { IfSome result (IsIndexWhere (λ g. g.header.name ≡ name.now) self.now) }
         ensures absent { IsTrue (is_none result) ↔ IsNewName self.now name.now }
     {
-        self.places.get(name.as_bytes())
+        self.indices.get(name.as_bytes())
     }
 
     /// Appends a group of a table that the changeset does not have ([`Changeset::find`]). [`NoMemory`] leaves the
@@ -76,9 +76,9 @@ impl Changeset {
         ensures err { OnErr result (self.new ≡ self.old) }
     {
         let name = Vec::from_slice(*self.groups.allocator(), group.header().name().as_bytes())?;
-        let place = self.groups.len();
+        let index = self.groups.len();
         self.groups.push(group)?;
-        match self.places.insert(name, place) {
+        match self.indices.insert(name, index) {
             Ok(()) => Ok(()),
             Err(refusal) => {
                 self.groups.pop();
@@ -117,15 +117,15 @@ impl Eq for Changeset {
     ghost laws = { lists_equiv laws-law };
 }
 
-/// Returns the place of the name of each of some groups. No two of them are of one table.
-fn places_of(alloc: Global, groups: &[Group]) -> Result<Places, NoMemory>
+/// Returns the index of the name of each of some groups. No two of them are of one table.
+fn indices_of(alloc: Global, groups: &[Group]) -> Result<Indices, NoMemory>
     requires { IsChangeset groups.now }
-    ensures { IfOk result (λ places. IsIndex places (group_names groups.now)) }
+    ensures { IfOk result (λ indices. IsIndex indices (group_names groups.now)) }
 {
-    let mut places = Places::new(alloc);
-    for (place, group) in groups.iter().enumerate() {
+    let mut indices = Indices::new(alloc);
+    for (index, group) in groups.iter().enumerate() {
         let name = Vec::from_slice(alloc, group.header().name().as_bytes())?;
-        places.insert(name, place)?;
+        indices.insert(name, index)?;
     }
-    Ok(places)
+    Ok(indices)
 }

@@ -4,7 +4,7 @@ ghost use Rattle.cs_wire_entries.specs.Changeset.{IsGroup};
 ghost use Rattle.cs_wire_entries.specs.Views.{group_keys, IsIndex};
 
 use crate::header::Header;
-use crate::places::Places;
+use crate::indices::Indices;
 use cs_value::{Key, NoMemory};
 use cs_wire_entries::{Entry, invert_entries};
 use std::alloc::Global;
@@ -15,8 +15,8 @@ use std::marker::Model;
 pub struct Group {
     header: Header,
     entries: Vec<Entry>,
-    // The place of the entry of each key.
-    places: Places,
+    // The index of the entry of each key.
+    indices: Indices,
 }
 
 impl Model for Group {
@@ -28,14 +28,14 @@ impl Model for Group {
     ghost view = { λ g. record { header = g.header; entries = g.entries.items } };
 
     ghost invariant = { λ g. IsGroup (record { header = g.header; entries = g.entries.items })
-        × IsIndex g.places (group_keys g.header.flags g.entries.items) };
+        × IsIndex g.indices (group_keys g.header.flags g.entries.items) };
 }
 
 impl Group {
     ghost use Rattle.cs_wire_entries.specs.Entry.{IsEntry, key_of};
     ghost use Rattle.cs_wire_entries.specs.Changeset.{IsNewKey};
     ghost use Rattle.cs_wire_entries.specs.Inverse.{IsInverseGroup};
-    ghost use Rattle.cs_wire_entries.specs.Views.{IsPlaceOf};
+    ghost use Rattle.cs_wire_entries.specs.Views.{IsIndexWhere};
 
     /// Returns the group of one entry, which fits the header's flags ([`Header::admits`]).
     pub fn new(alloc: Global, header: Header, first: Entry) -> Result<Group, NoMemory>
@@ -74,11 +74,11 @@ impl Group {
         ensures made { IfOk result (λ g. g ≡ record { header = header; entries = entries.items }) }
         ensures well_formed { IfOk result IsGroup }
     {
-        let places = places_of(alloc, keys)?;
+        let indices = indices_of(alloc, keys)?;
         Ok(Group {
             header,
             entries,
-            places,
+            indices,
         })
     }
 
@@ -125,14 +125,14 @@ impl Group {
         self.header.key_of(alloc, entry)
     }
 
-    /// Returns the zero-based place of the entry with a key, or None if there is none. It allocates nothing, and takes
+    /// Returns the zero-based index of the entry with a key, or None if there is none. It allocates nothing, and takes
     /// time in proportion to the logarithm of the number of entries.
     pub fn find(&self, key: &Key) -> Option<usize>
-        ensures found { IfSome result (IsPlaceOf
+        ensures found { IfSome result (IsIndexWhere
             (λ e. key_of self.now.header.flags e.change ≡ key.now) self.now.entries) }
         ensures absent { IsTrue (is_none result) ↔ IsNewKey self.now.header.flags self.now.entries key.now }
     {
-        self.places.get(key.bytes())
+        self.indices.get(key.bytes())
     }
 
     /// Appends an entry that fits the header's flags ([`Header::admits`]). No entry of the group has its key
@@ -159,9 +159,9 @@ impl Group {
         ensures ok { OnOk result (self.new.entries ≡ self.old.entries ++ entry ∷ []) }
         ensures err { OnErr result (self.new ≡ self.old) }
     {
-        let place = self.entries.len();
+        let index = self.entries.len();
         self.entries.push(entry)?;
-        match self.places.insert(key.into_bytes(), place) {
+        match self.indices.insert(key.into_bytes(), index) {
             Ok(()) => Ok(()),
             Err(refusal) => {
                 self.entries.pop();
@@ -237,15 +237,15 @@ fn keys_of(alloc: Global, header: &Header, entries: &[Entry]) -> Result<Vec<Key>
     Ok(keys)
 }
 
-/// Returns the place of each of some keys.
-fn places_of(alloc: Global, keys: Vec<Key>) -> Result<Places, NoMemory>
-    ensures { IfOk result (λ places. IsIndex places keys.items) }
+/// Returns the index of each of some keys.
+fn indices_of(alloc: Global, keys: Vec<Key>) -> Result<Indices, NoMemory>
+    ensures { IfOk result (λ indices. IsIndex indices keys.items) }
 {
-    let mut places = Places::new(alloc);
-    let mut place = 0;
+    let mut indices = Indices::new(alloc);
+    let mut index = 0;
     for key in keys {
-        places.insert(key.into_bytes(), place)?;
-        place += 1;
+        indices.insert(key.into_bytes(), index)?;
+        index += 1;
     }
-    Ok(places)
+    Ok(indices)
 }

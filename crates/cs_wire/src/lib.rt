@@ -25,7 +25,7 @@
 //! `header`, `group` and `changeset` have the parts of a file, besides its entries, which `cs_wire_entries` has.
 //! `reader` reads files, and `writer` writes them. A `cursor` goes through a file by a `walk`, until its `ending`, and
 //! returns each `item`, borrowed from the file. A name or a key that it has `seen` before is a fault. `draft` collects
-//! the tables that `reader` reads. `places` indexes entries and groups, and `laws` has the laws of all changesets. The
+//! the tables that `reader` reads. `indices` finds entries and groups, and `laws` has the laws of all changesets. The
 //! names of `cs_wire_entries` are passed on. `CALLING.md`, next to this folder, shows a caller.
 //!
 //! `read_header`, `has_entry`, `read_entry`, `KeyColumns` and `word_of` are for the crate above, `cs_file_tables`.
@@ -37,9 +37,9 @@ mod draft;
 mod ending;
 mod group;
 mod header;
+mod indices;
 mod item;
 mod laws;
-mod places;
 mod reader;
 mod seen;
 mod walk;

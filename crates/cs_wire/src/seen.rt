@@ -93,8 +93,8 @@ fn short_word(text: &[u8]) -> u64
 }
 
 /// Returns a byte of a text, or 0 after its end.
-fn byte_at(text: &[u8], place: usize) -> u8
-    ensures { result ≡ get_or text.now place 0 }
+fn byte_at(text: &[u8], index: usize) -> u8
+    ensures { result ≡ get_or text.now index 0 }
 {
-    if place < text.len() { text[place] } else { 0 }
+    if index < text.len() { text[index] } else { 0 }
 }

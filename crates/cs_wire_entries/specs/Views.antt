@@ -24,15 +24,15 @@ group_keys flags entries = map (λ e. key_of flags e.change) entries
 abbrev pub group_names : List GroupData → List (List ℕ)
 group_names groups = map (λ g. g.header.name) groups
 
--- the map has the place of each of the texts, and no other text
-pub record IsIndex (places : ByBytes ℕ) (texts : List (List ℕ)) : Type 0 where
-  pub found : (text : List ℕ) (place : ℕ) → get places text ≡ Some place → slice_get texts place ≡ Some text
-  pub absent : (text : List ℕ) → get places text ≡ None → All (λ t. t ≢ text) texts
+-- the map has the index of each of the texts, and no other text
+pub record IsIndex (indices : ByBytes ℕ) (texts : List (List ℕ)) : Type 0 where
+  pub found : (text : List ℕ) (index : ℕ) → get indices text ≡ Some index → slice_get texts index ≡ Some text
+  pub absent : (text : List ℕ) → get indices text ≡ None → All (λ t. t ≢ text) texts
 
--- what stands at this place of the list has P
-pub record IsPlaceOf {X : Type 0} (P : X → Type 0) (xs : List X) (place : ℕ) : Type 0 where
-  pub within : place < length xs
-  pub holds : HoldsAt P xs place
+-- what stands at this index of the list has P
+pub record IsIndexWhere {X : Type 0} (P : X → Type 0) (xs : List X) (index : ℕ) : Type 0 where
+  pub within : index < length xs
+  pub holds : HoldsAt P xs index
 
 -- what undoes what an entry does
 abbrev pub inverse_operation : Operation → Operation

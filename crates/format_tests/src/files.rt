@@ -1,7 +1,7 @@
 //! Texts of files, printed into a vector.
 
 use crate::DELETE;
-use cs_files::{PrintFault, Told, dump_text, print_dump, sql_text};
+use cs_files::{PrintError, Told, dump_text, print_dump, sql_text};
 use cs_wire::read;
 use std::io;
 use std::io::Write;
@@ -22,7 +22,7 @@ fn prints_a_changeset(rt: HostRuntime) {
 fn prints_nothing_of_a_file_with_a_fault_at_its_end(rt: HostRuntime) {
     let mut out = Told::new(Vec::new(rt.alloc()));
     let printed = print_dump(rt.alloc(), &DELETE[..DELETE.len() - 1], &mut out);
-    assert!(rt; matches!(&printed, Err(PrintFault::Read(_))));
+    assert!(rt; matches!(&printed, Err(PrintError::Read(_))));
     assert!(rt; !out.failed() && out.into_inner().is_empty());
 }
 

@@ -56,7 +56,7 @@ pub record Lacks (Made : List ℕ → Type 0) (before : List ℕ) (needed : ℕ)
   pub counted : needed ≡ length bytes
 
 -- a refusal for which Why holds is reported, and nothing was written
-pub record Tells (Why : FileFault → Type 0) (report : FaultReport) (written : ℕ) : Type 0 where
+pub record ReportsFault (Why : FileFault → Type 0) (report : FaultReport) (written : ℕ) : Type 0 where
   pub refusal : OrNoMemory FileFault
   pub why : Refuses Why refusal
   pub told : report ≡ report_of refusal
@@ -81,7 +81,7 @@ file_among index (Fault f) = file_number index
 file_among index NoMemory = pos 0
 
 -- a refusal for which Why holds of the file at an index is reported, and nothing was written
-pub record TellsFile (Why : ℕ → FileFault → Type 0) (report : FaultReport) (written : ℕ) : Type 0 where
+pub record ReportsFileFault (Why : ℕ → FileFault → Type 0) (report : FaultReport) (written : ℕ) : Type 0 where
   pub index : ℕ
   pub refusal : OrNoMemory FileFault
   pub why : Refuses (Why index) refusal

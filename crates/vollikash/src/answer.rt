@@ -1,6 +1,6 @@
 //! What a call answers to C.
 ghost use Rattle.std.specs.Prelude.{◌≡◌, ◌≢◌, IfOk};
-ghost use Rattle.vollikash.specs.Answers.{IsMade, IsWhy, Gives, Lacks, Tells, IsMadeCode, IsRefusal};
+ghost use Rattle.vollikash.specs.Answers.{IsMade, IsWhy, Gives, Lacks, ReportsFault, IsMadeCode, IsRefusal};
 ghost use Rattle.vollikash.specs.Answers.{no_fault, report_of};
 
 use cs_files::{FileFault, ToolFault};
@@ -69,7 +69,7 @@ pub(crate) fn hand_out(
     ensures made { IfOk made (λ _. IsMadeCode result) }
     ensures given { result ≡ OK → Gives (IsMade made) out.old out.new written.new }
     ensures room { result ≡ NO_ROOM → Lacks (IsMade made) out.old written.new }
-    ensures refused { IsRefusal result → Tells (IsWhy made) fault.new written.new }
+    ensures refused { IsRefusal result → ReportsFault (IsWhy made) fault.new written.new }
     ensures same { result ≢ OK → out.new ≡ out.old }
     ensures code { fault.new.code ≡ result }
     ensures plain { IsMadeCode result → fault.new ≡ no_fault result }

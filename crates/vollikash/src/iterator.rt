@@ -6,7 +6,7 @@ ghost use Rattle.cs_wire_entries.specs.declared.fault.ReadFaultKind.TheVariants.
 ghost use Rattle.cs_wire_entries.specs.Changeset.{GroupData, HeaderData, IsFileOf, IsHeader, header_bytes};
 ghost use Rattle.cs_wire_entries.specs.ReadFaults.{HasEntry, Stands};
 ghost use Rattle.cs_files.specs.declared.fault.FileFault.TheVariants.{First};
-ghost use Rattle.cs_file_changes.specs.Changes.{AreLeft, IsStep, LiesIn, Shows, TableChange};
+ghost use Rattle.cs_file_changes.specs.Changes.{ChangesLeft, IsStep, LiesIn, Shows, TableChange};
 ghost use Rattle.cs_file_changes.specs.Readable.{AreAll, IsUnreadable, ReadsOn, WereRead};
 ghost use Rattle.cs_file_changes.specs.Values.{ShowsValue};
 ghost use Rattle.vollikash.specs.Answers.{no_fault, report_of};
@@ -34,11 +34,11 @@ pub extern "C" fn vollikash_next(
     change: &mut ChangeSpan,
     fault: &mut FaultReport,
 ) -> i32
-    ensures next { (all : List GroupData) (left : List TableChange) → IsFileOf file.now all → AreLeft file.now all left place.old change.old
+    ensures next { (all : List GroupData) (left : List TableChange) → IsFileOf file.now all → ChangesLeft file.now all left place.old change.old
         → result ≡ OK → IsStep file.now all left change.new place.new }
-    ensures done { (all : List GroupData) (left : List TableChange) → IsFileOf file.now all → AreLeft file.now all left place.old change.old
+    ensures done { (all : List GroupData) (left : List TableChange) → IsFileOf file.now all → ChangesLeft file.now all left place.old change.old
         → result ≡ DONE → left ≡ [] }
-    ensures no_fault { (all : List GroupData) (left : List TableChange) → IsFileOf file.now all → AreLeft file.now all left place.old change.old
+    ensures no_fault { (all : List GroupData) (left : List TableChange) → IsFileOf file.now all → ChangesLeft file.now all left place.old change.old
         → IsStepCode result }
     ensures ended { (result ≡ DONE) ↔ (place.old ≡ length file.now) }
     ensures reads { (groups : List GroupData) → WereRead file.now groups place.old change.old

@@ -12,7 +12,7 @@ ghost use Rattle.std.specs.Prelude.{◌≡◌, ◌≢◌, ◌+◌, ◌≤◌, le
 ghost use Rattle.cs_wire.specs.Changeset.{IsAccepted};
 ghost use Rattle.cs_files.specs.Files.{Inverts, Joins, Numbers, Prints, JoinFails, FirstFails};
 ghost use Rattle.cs_files.specs.Texts.{dump_of, sql_of};
-ghost use Rattle.vollikash.specs.Answers.{Gives, Lacks, Tells, IsMadeCode, IsRefusal, no_fault};
+ghost use Rattle.vollikash.specs.Answers.{Gives, Lacks, ReportsFault, IsMadeCode, IsRefusal, no_fault};
 
 mod answer;
 mod iterator;
@@ -44,7 +44,7 @@ pub extern "C" fn vollikash_version() -> i32
 #[unsafe(no_mangle)]
 pub extern "C" fn vollikash_check(alloc: Global, file: &[u8], fault: &mut FaultReport) -> i32
     ensures accepted { result ≡ OK → IsAccepted file.now }
-    ensures refused { result ≢ OK → Tells (FirstFails file.now) fault.new 0 }
+    ensures refused { result ≢ OK → ReportsFault (FirstFails file.now) fault.new 0 }
     ensures code { fault.new.code ≡ result }
     ensures plain { IsMadeCode result → fault.new ≡ no_fault result }
 {
@@ -70,7 +70,7 @@ pub extern "C" fn vollikash_invert(
     ensures inverted { result ≡ OK → Gives (Inverts file.now) out.old out.new written.new }
     ensures room { result ≡ NO_ROOM → Lacks (Inverts file.now) out.old written.new }
     ensures enough { length file.now ≤ length out.old → result ≢ NO_ROOM }
-    ensures refused { IsRefusal result → Tells (FirstFails file.now) fault.new written.new }
+    ensures refused { IsRefusal result → ReportsFault (FirstFails file.now) fault.new written.new }
     ensures same { result ≢ OK → out.new ≡ out.old }
     ensures code { fault.new.code ≡ result }
     ensures plain { IsMadeCode result → fault.new ≡ no_fault result }
@@ -96,7 +96,7 @@ pub extern "C" fn vollikash_concat(
     ensures joined { result ≡ OK → Gives (Joins first.now second.now) out.old out.new written.new }
     ensures room { result ≡ NO_ROOM → Lacks (Joins first.now second.now) out.old written.new }
     ensures enough { length first.now + length second.now ≤ length out.old → result ≢ NO_ROOM }
-    ensures refused { IsRefusal result → Tells (JoinFails first.now second.now) fault.new written.new }
+    ensures refused { IsRefusal result → ReportsFault (JoinFails first.now second.now) fault.new written.new }
     ensures same { result ≢ OK → out.new ≡ out.old }
     ensures code { fault.new.code ≡ result }
     ensures plain { IsMadeCode result → fault.new ≡ no_fault result }
@@ -119,7 +119,7 @@ pub extern "C" fn vollikash_number_keys(
     ensures numbered { result ≡ OK → Gives (Numbers file.now) out.old out.new written.new }
     ensures room { result ≡ NO_ROOM → Lacks (Numbers file.now) out.old written.new }
     ensures enough { length file.now ≤ length out.old → result ≢ NO_ROOM }
-    ensures refused { IsRefusal result → Tells (FirstFails file.now) fault.new written.new }
+    ensures refused { IsRefusal result → ReportsFault (FirstFails file.now) fault.new written.new }
     ensures same { result ≢ OK → out.new ≡ out.old }
     ensures code { fault.new.code ≡ result }
     ensures plain { IsMadeCode result → fault.new ≡ no_fault result }
@@ -142,7 +142,7 @@ pub extern "C" fn vollikash_dump(
 ) -> i32
     ensures printed { result ≡ OK → Gives (Prints dump_of file.now) out.old out.new written.new }
     ensures room { result ≡ NO_ROOM → Lacks (Prints dump_of file.now) out.old written.new }
-    ensures refused { IsRefusal result → Tells (FirstFails file.now) fault.new written.new }
+    ensures refused { IsRefusal result → ReportsFault (FirstFails file.now) fault.new written.new }
     ensures same { result ≢ OK → out.new ≡ out.old }
     ensures code { fault.new.code ≡ result }
     ensures plain { IsMadeCode result → fault.new ≡ no_fault result }
@@ -164,7 +164,7 @@ pub extern "C" fn vollikash_sql(
 ) -> i32
     ensures printed { result ≡ OK → Gives (Prints sql_of file.now) out.old out.new written.new }
     ensures room { result ≡ NO_ROOM → Lacks (Prints sql_of file.now) out.old written.new }
-    ensures refused { IsRefusal result → Tells (FirstFails file.now) fault.new written.new }
+    ensures refused { IsRefusal result → ReportsFault (FirstFails file.now) fault.new written.new }
     ensures same { result ≢ OK → out.new ≡ out.old }
     ensures code { fault.new.code ≡ result }
     ensures plain { IsMadeCode result → fault.new ≡ no_fault result }

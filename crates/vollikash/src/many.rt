@@ -4,10 +4,10 @@ ghost use Rattle.cs_files.specs.Files.{FirstFails};
 ghost use Rattle.cs_files.specs.Chaining.{AreLengths, ChainFails, Chains, files_in};
 ghost use Rattle.cs_files.specs.Selecting.{Selects};
 ghost use Rattle.vollikash.specs.declared.answer.TheConstants.{OK, NO_ROOM};
-ghost use Rattle.vollikash.specs.Answers.{Gives, Lacks, Tells, TellsFile, IsMadeCode, IsRefusal, file_number, no_fault};
+ghost use Rattle.vollikash.specs.Answers.{Gives, Lacks, ReportsFault, ReportsFileFault, IsMadeCode, IsRefusal, file_number, no_fault};
 
 use crate::answer::{FaultReport, RANGE, hand_out, report, report_plain};
-use cs_files::{ChainFault, ToolFault, concat_all_bytes, first_fault, select_bytes};
+use cs_files::{ChainError, ToolFault, concat_all_bytes, first_fault, select_bytes};
 use std::alloc::Global;
 
 /// Puts the file of the tables that are named into `out`, and its length, which is at most that of the file, into
@@ -26,7 +26,7 @@ pub extern "C" fn vollikash_select(
     ensures selected { result ≡ OK → Gives (Selects names.now file.now) out.old out.new written.new }
     ensures room { result ≡ NO_ROOM → Lacks (Selects names.now file.now) out.old written.new }
     ensures enough { length file.now ≤ length out.old → result ≢ NO_ROOM }
-    ensures refused { IsRefusal result → Tells (FirstFails file.now) fault.new written.new }
+    ensures refused { IsRefusal result → ReportsFault (FirstFails file.now) fault.new written.new }
     ensures same { result ≢ OK → out.new ≡ out.old }
     ensures code { fault.new.code ≡ result }
     ensures plain { IsMadeCode result → fault.new ≡ no_fault result }
@@ -56,19 +56,19 @@ pub extern "C" fn vollikash_concat_many(
     ensures lengths { result ≡ RANGE → AreLengths files.now lengths.now → ⊥ }
     ensures range { result ≡ RANGE → (fault.new ≡ no_fault RANGE) × (written.new ≡ 0) }
     ensures refused { IsRefusal result → result ≢ RANGE
-        → TellsFile (ChainFails (files_in files.now lengths.now)) fault.new written.new }
+        → ReportsFileFault (ChainFails (files_in files.now lengths.now)) fault.new written.new }
     ensures same { result ≢ OK → out.new ≡ out.old }
     ensures code { fault.new.code ≡ result }
     ensures plain { IsMadeCode result → fault.new ≡ no_fault result }
 {
     match concat_all_bytes(alloc, files, lengths) {
         Ok(joined) => hand_out(Ok(joined), out, written, fault),
-        Err(ChainFault::Lengths) => {
+        Err(ChainError::Lengths) => {
             *written = 0;
             *fault = report_plain(RANGE);
             RANGE
         }
-        Err(ChainFault::File { index, error }) => {
+        Err(ChainError::File { index, error }) => {
             *written = 0;
             let file = match error {
                 ToolFault::Fault(_) => file_number_of(index),

@@ -6,7 +6,7 @@ ghost use Rattle.cs_value.specs.Value.{value_of};
 ghost use Rattle.cs_wire.specs.Entry.{before_image};
 ghost use Rattle.cs_wire.specs.Items.{new_record};
 ghost use Rattle.cs_file_texts.specs.Gathering.{Gathers};
-ghost use Rattle.cs_file_texts.specs.Texts.{column_name, assignment, condition, assignments, by_place, statement};
+ghost use Rattle.cs_file_texts.specs.Texts.{column_name, assignment, condition, assignments, by_index, statement};
 ghost use Rattle.cs_file_texts.specs.Pieces.{TakesValue, is_defined, between_of, term_text, terms_text};
 ghost use Rattle.cs_file_texts.specs.Pieces.{action_text, where_text};
 
@@ -45,14 +45,14 @@ impl Terms {
 fn add_column<W: Write>(
     gather: &mut Gather,
     out: &mut Told<W>,
-    place: usize,
+    index: usize,
     rest: &[u8],
 ) -> Result<(), OutputFault>
-    requires { place < usize.MAX }
-    ensures { Gathers W.contents result gather.old gather.new out.old out.new (column_name place ++ rest.now) }
+    requires { index < usize.MAX }
+    ensures { Gathers W.contents result gather.old gather.new out.old out.new (column_name index ++ rest.now) }
 {
     let mut buffer = Buffer::new();
-    let number = buffer.format(place + 1);
+    let number = buffer.format(index + 1);
     gather.add_all(out, &[b"c", number.as_bytes(), rest])
 }
 
@@ -60,13 +60,13 @@ fn add_column<W: Write>(
 fn add_assignment<W: Write>(
     gather: &mut Gather,
     out: &mut Told<W>,
-    place: usize,
+    index: usize,
     value: Value<'_>,
 ) -> Result<(), OutputFault>
-    requires { place < usize.MAX }
-    ensures { Gathers W.contents result gather.old gather.new out.old out.new (assignment place (value_of value.entry)) }
+    requires { index < usize.MAX }
+    ensures { Gathers W.contents result gather.old gather.new out.old out.new (assignment index (value_of value.entry)) }
 {
-    add_column(gather, out, place, b"=")?;
+    add_column(gather, out, index, b"=")?;
     add_literal(gather, out, value)
 }
 
@@ -75,15 +75,15 @@ fn add_assignment<W: Write>(
 fn add_condition<W: Write>(
     gather: &mut Gather,
     out: &mut Told<W>,
-    place: usize,
+    index: usize,
     value: Value<'_>,
 ) -> Result<(), OutputFault>
-    requires { place < usize.MAX }
-    ensures { Gathers W.contents result gather.old gather.new out.old out.new (condition place (value_of value.entry)) }
+    requires { index < usize.MAX }
+    ensures { Gathers W.contents result gather.old gather.new out.old out.new (condition index (value_of value.entry)) }
 {
     match value {
-        Value::Null => add_column(gather, out, place, b" IS NULL"),
-        _ => add_assignment(gather, out, place, value),
+        Value::Null => add_column(gather, out, index, b" IS NULL"),
+        _ => add_assignment(gather, out, index, value),
     }
 }
 
@@ -93,17 +93,17 @@ fn add_term<W: Write>(
     out: &mut Told<W>,
     terms: Terms,
     lead: &[u8],
-    place: usize,
+    index: usize,
     value: Value<'_>,
 ) -> Result<(), OutputFault>
-    requires { place < usize.MAX }
+    requires { index < usize.MAX }
     ensures { Gathers W.contents result gather.old gather.new out.old out.new
-        (lead.now ++ term_text terms place (value_of value.entry)) }
+        (lead.now ++ term_text terms index (value_of value.entry)) }
 {
     gather.add(out, lead)?;
     match terms {
-        Terms::Assignments => add_assignment(gather, out, place, value),
-        Terms::Conditions => add_condition(gather, out, place, value),
+        Terms::Assignments => add_assignment(gather, out, index, value),
+        Terms::Conditions => add_condition(gather, out, index, value),
     }
 }
 
@@ -133,11 +133,11 @@ fn add_terms<W: Write>(
     let mut some = false;
     let mut lead: &[u8] = b"";
     let mut left = fields;
-    for place in 0..columns {
+    for index in 0..columns {
         let Some(value) = next_value(&mut left) else {
             continue;
         };
-        add_term(gather, out, terms, lead, place, value)?;
+        add_term(gather, out, terms, lead, index, value)?;
         lead = terms.between();
         some = true;
     }
@@ -155,7 +155,7 @@ fn add_assignments<W: Write>(
     requires old { length old ≡ columns }
     requires new { length new ≡ columns }
     ensures { Gathers W.contents result gather.old gather.new out.old out.new
-        (assignments old.entry (by_place assignment 0 new.entry)) }
+        (assignments old.entry (by_index assignment 0 new.entry)) }
 {
     if add_terms(gather, out, Terms::Assignments, columns, new)? {
         return Ok(());

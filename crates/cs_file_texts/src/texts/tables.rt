@@ -4,7 +4,7 @@ ghost use Rattle.std.specs.List.{flat_map};
 ghost use Rattle.cs_wire_entries.specs.declared.entry.Entry.{Entry as EntryData};
 ghost use Rattle.cs_wire.specs.Changeset.{GroupData};
 ghost use Rattle.cs_wire.specs.Headers.{header_of};
-ghost use Rattle.cs_file_tables.specs.Tables.{AreLeft};
+ghost use Rattle.cs_file_tables.specs.Tables.{EntriesLeft};
 ghost use Rattle.cs_file_texts.specs.Gathering.{Gathers};
 ghost use Rattle.cs_file_texts.specs.Forms.{header_part, entry_part, form_text};
 
@@ -24,10 +24,10 @@ fn add_entries<W: Write>(
     name: &str,
     tables: &mut Tables<'_>,
 ) -> Result<(), OutputFault>
-    ensures gathered { (entries : List EntryData) (groups : List GroupData) → AreLeft tables.old entries groups
+    ensures gathered { (entries : List EntryData) (groups : List GroupData) → EntriesLeft tables.old entries groups
         → Gathers W.contents result gather.old gather.new out.old out.new (flat_map (entry_part form name.now) entries) }
-    ensures left { (entries : List EntryData) (groups : List GroupData) → AreLeft tables.old entries groups
-        → OnOk result (AreLeft tables.new [] groups) }
+    ensures left { (entries : List EntryData) (groups : List GroupData) → EntriesLeft tables.old entries groups
+        → OnOk result (EntriesLeft tables.new [] groups) }
     ensures ahead { tables.old.place ≤ tables.new.place }
     ensures file { tables.new.file ≡ tables.old.file }
 {
@@ -45,11 +45,11 @@ fn add_table<W: Write>(
     header: HeaderRef<'_>,
     tables: &mut Tables<'_>,
 ) -> Result<(), OutputFault>
-    ensures gathered { (entries : List EntryData) (groups : List GroupData) → AreLeft tables.old entries groups
+    ensures gathered { (entries : List EntryData) (groups : List GroupData) → EntriesLeft tables.old entries groups
         → Gathers W.contents result gather.old gather.new out.old out.new
         (header_part form (header_of header.entry) ++ flat_map (entry_part form header.entry.name.now) entries) }
-    ensures left { (entries : List EntryData) (groups : List GroupData) → AreLeft tables.old entries groups
-        → OnOk result (AreLeft tables.new [] groups) }
+    ensures left { (entries : List EntryData) (groups : List GroupData) → EntriesLeft tables.old entries groups
+        → OnOk result (EntriesLeft tables.new [] groups) }
     ensures ahead { tables.old.place ≤ tables.new.place }
     ensures file { tables.new.file ≡ tables.old.file }
 {
@@ -64,7 +64,7 @@ pub(super) fn add_tables<W: Write>(
     form: Form,
     tables: Tables<'_>,
 ) -> Result<(), OutputFault>
-    ensures { (groups : List GroupData) → AreLeft tables.entry [] groups
+    ensures { (groups : List GroupData) → EntriesLeft tables.entry [] groups
         → Gathers W.contents result gather.old gather.new out.old out.new (form_text form groups) }
 {
     let mut left = tables;

@@ -3,7 +3,7 @@ ghost use Rattle.std.specs.Prelude.{◌≡◌, ◌↔◌, List, IfNone, IfSome, 
 ghost use Rattle.cs_wire.specs.Changeset.{GroupData, IsChangeset};
 ghost use Rattle.cs_wire.specs.Headers.{header_of};
 ghost use Rattle.cs_file_tables.specs.Named.{AreListed};
-ghost use Rattle.cs_group.specs.Joining.{AgreesWith, AreJoinable, FirstClash, key_places, table_name, with_text};
+ghost use Rattle.cs_group.specs.Joining.{AgreesWith, AreJoinable, FirstClash, key_marks, table_name, with_text};
 ghost use Rattle.cs_files.specs.Writing.{IsPartner};
 
 use cs_file_tables::{NamedTables, Tables};
@@ -19,9 +19,9 @@ pub(crate) fn first_clash<'a>(known: &NamedTables<'a>, added: &NamedTables<'a>) 
         → AreListed added.now others
         → IfNone result (AreJoinable groups others) }
 {
-    for place in 0..added.len() {
-        if !agrees(known, &added.header(place)) {
-            return Some(place);
+    for index in 0..added.len() {
+        if !agrees(known, &added.header(index)) {
+            return Some(index);
         }
     }
     None
@@ -35,21 +35,21 @@ fn agrees<'a>(known: &NamedTables<'a>, header: &HeaderRef<'a>) -> bool
 {
     match known.find(header.name) {
         None => true,
-        Some(place) => have_same_columns(known.header(place).flags, header.flags),
+        Some(index) => have_same_columns(known.header(index).flags, header.flags),
     }
 }
 
 /// Returns the entries of the table with a name, if it has the same columns.
 pub(crate) fn partner_of<'a>(named: &NamedTables<'a>, header: &HeaderRef<'a>) -> Option<Tables<'a>>
-    ensures agree { IfSome result (λ tables. key_places tables.flags ≡ key_places header.now.flags.now) }
+    ensures agree { IfSome result (λ tables. key_marks tables.flags ≡ key_marks header.now.flags.now) }
     ensures found { (groups : List GroupData) → AreListed named.now groups → IsChangeset groups
-        → IfSome (with_text table_name groups header.now.name.now) (λ group. key_places group.header.flags ≡
-        key_places header.now.flags.now)
+        → IfSome (with_text table_name groups header.now.name.now) (λ group. key_marks group.header.flags ≡
+        key_marks header.now.flags.now)
         → IsPartner result (with_text table_name groups header.now.name.now) }
 {
-    let place = named.find(header.name)?;
-    if !have_same_columns(named.header(place).flags, header.flags) {
+    let index = named.find(header.name)?;
+    if !have_same_columns(named.header(index).flags, header.flags) {
         return None;
     }
-    Some(named.open(place))
+    Some(named.open(index))
 }

@@ -5,9 +5,9 @@ ghost use Rattle.cs_wire_entries.specs.declared.entry.Entry.{Entry as EntryData}
 ghost use Rattle.cs_wire.specs.Entry.{entry_bytes, key_of};
 ghost use Rattle.cs_wire.specs.Changeset.{GroupData, entries_bytes};
 ghost use Rattle.cs_file_tables.specs.KeyedFile.{AreKeyed, count_of};
-ghost use Rattle.cs_file_tables.specs.Tables.{AreLeft};
-ghost use Rattle.cs_wire.specs.Views.{IsPlaceOf};
-ghost use Rattle.cs_group.specs.Joining.{entry_key, is_new, joined_entries, joined_entry, key_places, left_of, merged};
+ghost use Rattle.cs_file_tables.specs.Tables.{EntriesLeft};
+ghost use Rattle.cs_wire.specs.Views.{IsIndexWhere};
+ghost use Rattle.cs_group.specs.Joining.{entry_key, is_new, joined_entries, joined_entry, key_marks, left_of, merged};
 ghost use Rattle.cs_group.specs.Joining.{outcome};
 ghost use Rattle.cs_group.specs.Marks.{AreApart, AreMet};
 ghost use Rattle.cs_files.specs.Writing.{some_bytes};
@@ -25,9 +25,9 @@ pub(crate) fn write_joined<'a>(
     firsts: Tables<'a>,
     seconds: Tables<'a>,
 ) -> Result<(), NoMemory>
-    requires agree { key_places seconds.flags ≡ key_places firsts.flags }
+    requires agree { key_marks seconds.flags ≡ key_marks firsts.flags }
     ensures { (entries others : List EntryData) (groups behind : List GroupData)
-        → AreLeft firsts.entry entries groups → AreLeft seconds.entry others behind
+        → EntriesLeft firsts.entry entries groups → EntriesLeft seconds.entry others behind
         → AreApart (record { flags = seconds.entry.flags; entries = others })
         → OnOk result (out.new.items ≡ out.old.items
         ++ entries_bytes (joined_entries firsts.entry.flags entries others)) }
@@ -45,15 +45,15 @@ fn write_kept<'a>(
     firsts: Tables<'a>,
     seconds: &KeyedEntries<'a>,
 ) -> Result<Vec<bool>, NoMemory>
-    requires agree { key_places seconds.now.flags ≡ key_places firsts.flags }
+    requires agree { key_marks seconds.now.flags ≡ key_marks firsts.flags }
     ensures written { (entries others : List EntryData) (groups behind : List GroupData)
-        → AreLeft firsts.entry entries groups → AreKeyed seconds.now others behind
+        → EntriesLeft firsts.entry entries groups → AreKeyed seconds.now others behind
         → AreApart (record { flags = seconds.now.flags; entries = others })
         → IfOk result (λ _. out.new.items ≡ out.old.items
         ++ entries_bytes (filter_map (outcome (entry_key firsts.entry.flags) (joined_entry firsts.entry.flags) others)
         entries)) }
     ensures met { (entries others : List EntryData) (groups behind : List GroupData)
-        → AreLeft firsts.entry entries groups → AreKeyed seconds.now others behind
+        → EntriesLeft firsts.entry entries groups → AreKeyed seconds.now others behind
         → AreApart (record { flags = seconds.now.flags; entries = others })
         → IfOk result (λ met. AreMet (entry_key firsts.entry.flags) met.items entries others) }
     ensures width { IfOk result (λ met. length met.items ≡ count_of seconds.now) }
@@ -61,8 +61,8 @@ fn write_kept<'a>(
     let mut met = unmarked(alloc, seconds.len())?;
     let mut left = firsts;
     'entries: while let Some(entry) = left.next_entry() {
-        if let Some(place) = write_outcome(alloc, out, &entry, seconds)? {
-            met[place] = true;
+        if let Some(index) = write_outcome(alloc, out, &entry, seconds)? {
+            met[index] = true;
         }
     }
     Ok(met)
@@ -80,8 +80,8 @@ fn write_new<'a>(
         → OnOk result (out.new.items ≡ out.old.items
         ++ entries_bytes (filter (is_new (entry_key flags) firsts) others)) }
 {
-    for place in 0..seconds.len() {
-        write_unmet(out, seconds.bytes(place), met[place])?;
+    for index in 0..seconds.len() {
+        write_unmet(out, seconds.bytes(index), met[index])?;
     }
     Ok(())
 }
@@ -112,18 +112,18 @@ fn write_outcome<'a>(
     entry: &EntryRef<'a>,
     seconds: &KeyedEntries<'a>,
 ) -> Result<Option<usize>, NoMemory>
-    requires agree { key_places seconds.now.flags ≡ key_places entry.now.flags }
+    requires agree { key_marks seconds.now.flags ≡ key_marks entry.now.flags }
     ensures written { (others : List EntryData) (behind : List GroupData) → AreKeyed seconds.now others behind
         → AreApart (record { flags = seconds.now.flags; entries = others })
         → IfOk result (λ _. out.new.items ≡ out.old.items
         ++ some_bytes entry_bytes (outcome (entry_key entry.now.flags) (joined_entry entry.now.flags) others
         entry.now.entry)) }
-    ensures within { IfOk result (λ place. IfSome place (λ p. p < count_of seconds.now)) }
+    ensures within { IfOk result (λ index. IfSome index (λ p. p < count_of seconds.now)) }
     ensures found { (others : List EntryData) (behind : List GroupData) → AreKeyed seconds.now others behind
-        → IfOk result (λ place. IfSome place (IsPlaceOf (λ e. key_of seconds.now.flags e.change ≡ key_of
+        → IfOk result (λ index. IfSome index (IsIndexWhere (λ e. key_of seconds.now.flags e.change ≡ key_of
         entry.now.flags entry.now.entry.change) others)) }
     ensures absent { (others : List EntryData) (behind : List GroupData) → AreKeyed seconds.now others behind
-        → IfOk result (λ place. IsTrue (is_none place)
+        → IfOk result (λ index. IsTrue (is_none index)
         → All (λ e. key_of seconds.now.flags e.change ≢ key_of entry.now.flags entry.now.entry.change) others) }
 {
     let key = entry.key_slice(alloc)?;
@@ -134,7 +134,7 @@ fn write_outcome<'a>(
         }
         Some(found) => {
             write_merged(alloc, out, entry, &found.entry)?;
-            Ok(Some(found.place))
+            Ok(Some(found.index))
         }
     }
 }
@@ -146,7 +146,7 @@ fn write_merged<'a>(
     first: &EntryRef<'a>,
     second: &EntryRef<'a>,
 ) -> Result<(), NoMemory>
-    requires agree { key_places second.now.flags ≡ key_places first.now.flags }
+    requires agree { key_marks second.now.flags ≡ key_marks first.now.flags }
     requires one_key { key_of first.now.flags first.now.entry.change ≡ key_of first.now.flags second.now.entry.change }
     ensures { OnOk result (out.new.items ≡ out.old.items
         ++ some_bytes entry_bytes (left_of first.now.entry (merged first.now.flags first.now.entry second.now.entry))) }

@@ -4,8 +4,8 @@ ghost use Rattle.cs_wire_entries.specs.declared.entry.Entry.{Entry as EntryData}
 ghost use Rattle.cs_wire.specs.Changeset.{GroupData, IsChangeset, IsHeader, entries_bytes, file_bytes, group_bytes};
 ghost use Rattle.cs_wire.specs.Headers.{header_of};
 ghost use Rattle.cs_file_tables.specs.Named.{AreListed};
-ghost use Rattle.cs_file_tables.specs.Tables.{AreLeft};
-ghost use Rattle.cs_group.specs.Joining.{AreJoinable, if_new, is_new, joined_entries, joined_group, key_places};
+ghost use Rattle.cs_file_tables.specs.Tables.{EntriesLeft};
+ghost use Rattle.cs_group.specs.Joining.{AreJoinable, if_new, is_new, joined_entries, joined_group, key_marks};
 ghost use Rattle.cs_group.specs.Joining.{outcome, some_group, table_name, with_text};
 ghost use Rattle.cs_group.specs.Marks.{AreApart};
 ghost use Rattle.cs_files.specs.Writing.{some_bytes};
@@ -29,8 +29,8 @@ pub(crate) fn write_kept_tables<'a>(
         → OnOk result (out.new.items ≡ out.old.items
         ++ file_bytes (filter_map (outcome table_name joined_group others) groups)) }
 {
-    for place in 0..known.len() {
-        write_kept_table(alloc, out, &known.header(place), known.open(place), added)?;
+    for index in 0..known.len() {
+        write_kept_table(alloc, out, &known.header(index), known.open(index), added)?;
     }
     Ok(())
 }
@@ -45,8 +45,8 @@ pub(crate) fn write_new_tables<'a>(
         → AreListed added.now others
         → OnOk result (out.new.items ≡ out.old.items ++ file_bytes (filter (is_new table_name groups) others)) }
 {
-    for place in 0..added.len() {
-        write_new_table(out, known, &added.header(place), added.open(place))?;
+    for index in 0..added.len() {
+        write_new_table(out, known, &added.header(index), added.open(index))?;
     }
     Ok(())
 }
@@ -61,10 +61,10 @@ fn write_kept_table<'a>(
 ) -> Result<(), NoMemory>
     requires header { IsHeader (header_of header.now) }
     requires opened { firsts.flags ≡ header.now.flags.now }
-    ensures { (entries : List EntryData) (groups others : List GroupData) → AreLeft firsts.entry entries groups
+    ensures { (entries : List EntryData) (groups others : List GroupData) → EntriesLeft firsts.entry entries groups
         → AreListed added.now others → IsChangeset others
-        → IfSome (with_text table_name others header.now.name.now) (λ other. key_places other.header.flags ≡
-        key_places header.now.flags.now)
+        → IfSome (with_text table_name others header.now.name.now) (λ other. key_marks other.header.flags ≡
+        key_marks header.now.flags.now)
         → OnOk result (out.new.items ≡ out.old.items
         ++ some_bytes group_bytes (outcome table_name joined_group others (record {
           header = header_of header.now;
@@ -86,7 +86,7 @@ fn write_new_table<'a>(
 ) -> Result<(), NoMemory>
     requires { IsHeader (header_of header.now) }
     ensures { (entries : List EntryData) (groups others : List GroupData) → AreListed known.now groups
-        → IsChangeset groups → AreLeft tables.entry entries others
+        → IsChangeset groups → EntriesLeft tables.entry entries others
         → OnOk result (out.new.items ≡ out.old.items
         ++ some_bytes group_bytes (if_new table_name groups (record {
           header = header_of header.now;
@@ -106,7 +106,7 @@ fn write_table<'a>(
     tables: Tables<'a>,
 ) -> Result<(), NoMemory>
     requires { IsHeader (header_of header.now) }
-    ensures { (entries : List EntryData) (groups : List GroupData) → AreLeft tables.entry entries groups
+    ensures { (entries : List EntryData) (groups : List GroupData) → EntriesLeft tables.entry entries groups
         → OnOk result (out.new.items ≡ out.old.items
         ++ group_bytes (record { header = header_of header.now; entries = entries })) }
 {
@@ -117,10 +117,10 @@ fn write_table<'a>(
 
 /// Appends the remaining entries of the open table.
 pub(crate) fn write_entries(out: &mut Vec<u8>, tables: &mut Tables<'_>) -> Result<(), NoMemory>
-    ensures written { (entries : List EntryData) (groups : List GroupData) → AreLeft tables.old entries groups
+    ensures written { (entries : List EntryData) (groups : List GroupData) → EntriesLeft tables.old entries groups
         → OnOk result (out.new.items ≡ out.old.items ++ entries_bytes entries) }
-    ensures left { (entries : List EntryData) (groups : List GroupData) → AreLeft tables.old entries groups
-        → OnOk result (AreLeft tables.new [] groups) }
+    ensures left { (entries : List EntryData) (groups : List GroupData) → EntriesLeft tables.old entries groups
+        → OnOk result (EntriesLeft tables.new [] groups) }
     ensures ahead { tables.old.place ≤ tables.new.place }
     ensures file { tables.new.file ≡ tables.old.file }
 {
@@ -139,9 +139,9 @@ fn write_both<'a>(
     seconds: Tables<'a>,
 ) -> Result<(), NoMemory>
     requires header { IsHeader (header_of header.now) }
-    requires agree { key_places seconds.flags ≡ key_places firsts.flags }
+    requires agree { key_marks seconds.flags ≡ key_marks firsts.flags }
     ensures { (entries others : List EntryData) (groups behind : List GroupData)
-        → AreLeft firsts.entry entries groups → AreLeft seconds.entry others behind
+        → EntriesLeft firsts.entry entries groups → EntriesLeft seconds.entry others behind
         → AreApart (record { flags = seconds.entry.flags; entries = others })
         → OnOk result (out.new.items ≡ out.old.items
         ++ some_bytes group_bytes (some_group (header_of header.now) (joined_entries firsts.entry.flags entries

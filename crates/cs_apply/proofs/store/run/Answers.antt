@@ -11,7 +11,7 @@ use Rattle.cs_value.specs.State as tables
 use Rattle.cs_apply_conflicts.specs.declared.conflict.Noop.{Noop}
 use Rattle.cs_apply_rows.specs.declared.running.Direction.{Direction}
 use Rattle.cs_apply_rows.specs.declared.tally.Tally.{Tally}
-use Rattle.cs_apply_rows.specs.Running.{Handler, AppliesTold}
+use Rattle.cs_apply_rows.specs.Running.{Handler, AppliesTallied}
 use Rattle.cs_apply.specs.Crash.{AppliesInto}
 use Rattle.cs_store.proofs.FailureLemmas.{begin_fails, commit_fails, work_fails}
 use Rattle.cs_store.specs.Failing.{BeginFails}
@@ -21,8 +21,8 @@ use Rattle.cs_apply_rows.proofs.CauseLemmas.{caused_on, rows_caused_on}
 use Rattle.cs_apply.proofs.store.run.Goals as goal
 
 -- what a tally has is what the state was made with
-into : {chooses : Handler} {noop : Noop} {file : List ℕ} {direction : Direction} {before after : tables.State} (tally : Tally) → AppliesTold chooses noop file direction before tally after → AppliesInto chooses noop file direction before after
-into tally told = record { met = tally.conflicts.items; skips = _; writes = told.writes; passed = tally.ignored; applies = told.applies }
+into : {chooses : Handler} {noop : Noop} {file : List ℕ} {direction : Direction} {before after : tables.State} (tally : Tally) → AppliesTallied chooses noop file direction before tally after → AppliesInto chooses noop file direction before after
+into tally reported = record { met = tally.conflicts.items; skips = _; writes = reported.writes; passed = tally.ignored; applies = reported.applies }
 
 pub returns-in_err-batch-clause-transacts : goal.returns-in_err-batch-clause-transacts
 returns-in_err-batch-clause-transacts g c =

@@ -68,7 +68,7 @@ returns-in_ok-carry_out-in-Carried-clause-comes_to g c = λ after.
     let name = rc_str_bytes c.args.table.now in
     let left = row_after p.flags p.entry.change c.in_ok-current.current in
     let wrote = c.in_ok-carry_out-in-Carried.ensures.written after ∙ ap (λ (s : State). with_result s name c.in_ok-key.key left) (c.in_ok-current.ensures.same honest) ∙ ap (λ (key : List ℕ). with_result state name key left) c.in_ok-key.ensures in
-    (rw heeded.0 (carries_written (FnReturnsAt g.H.Fn c.args.handler.now) state p c.in_ok-current.current _ _ is table.0 _ table.1 settled wrote (rw c.in_ok-key.ensures at c.in_ok-carry_out-in-Carried.ensures.told)), rw heeded.1 (omega arith))
+    (rw heeded.0 (carries_written (FnReturnsAt g.H.Fn c.args.handler.now) state p c.in_ok-current.current _ _ is table.0 _ table.1 settled wrote (rw c.in_ok-key.ensures at c.in_ok-carry_out-in-Carried.ensures.reported)), rw heeded.1 (omega arith))
 
 pub returns-in-Ignored-clause-comes_to : goal.returns-in-Ignored-clause-comes_to
 returns-in-Ignored-clause-comes_to g c = λ honest.

@@ -1,6 +1,6 @@
 use Rattle.std.proofs.Common.{◌≡◌, ◌+◌, ◌-◌, ◌≤◌, List, length}
 use Rattle.cs_wire_entries.specs.Changeset.{GroupData, IsFileOf}
-use Rattle.cs_file_changes.specs.Changes.{AreLeft, TableChange, changes_of}
+use Rattle.cs_file_changes.specs.Changes.{ChangesLeft, TableChange, changes_of}
 use Rattle.cs_file_changes.specs.Readable.{WereRead}
 use Rattle.cs_file_changes.proofs.count.count_changes.Given as goal
 
@@ -8,7 +8,7 @@ abbrev pub invariant-changes : goal.invariant-changes
 invariant-changes l = record {
   fewer : l.count ≤ l.place;
   within : l.place ≤ length l.file;
-  so_far : (all : List GroupData) → IsFileOf l.file all → (left : List TableChange) × AreLeft l.file all left l.place l.last × (l.count + length left ≡ length (changes_of all));
+  so_far : (all : List GroupData) → IsFileOf l.file all → (left : List TableChange) × ChangesLeft l.file all left l.place l.last × (l.count + length left ≡ length (changes_of all));
   read : (groups : List GroupData) × WereRead l.file groups l.place l.last × (l.count ≡ length (changes_of groups));
 }
 

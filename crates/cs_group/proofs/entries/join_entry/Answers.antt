@@ -4,7 +4,7 @@ use Rattle.std.specs.Prelude.{option_to_list}
 use Rattle.cs_wire_entries.specs.declared.entry.Entry.{Entry}
 use Rattle.cs_wire.specs.Entry.{key_of}
 use Rattle.cs_wire.specs.Changeset.{GroupData}
-use Rattle.cs_wire.specs.Views.{IsPlaceOf}
+use Rattle.cs_wire.specs.Views.{IsIndexWhere}
 use Rattle.cs_group.proofs.MarkLemmas.{outcome_alone, outcome_both, one_key, keys_of, place_of}
 use Rattle.cs_group.proofs.entries.join_entry.Goals as goal
 
@@ -33,11 +33,11 @@ merge_entry-requires-clause-one_key c =
     let own = c.args.second.now.header.flags in
     let entry = c.args.entry.now in
     let seconds = c.args.second.now.entries in
-    let place = c.in-Some.place in
-    let other = c.index-entries-place.result in
-    let at : IsPlaceOf (λ e. key_of own e.change ≡ key_of flags entry.change) seconds place = search rules in
+    let index = c.in-Some.place in
+    let other = c.index-entries-index.result in
+    let at : IsIndexWhere (λ e. key_of own e.change ≡ key_of flags entry.change) seconds index = search rules in
     let same = c.entries.ensures.same ∙ ap (λ (g : GroupData). g.entries) c.group.ensures in
-    one_key own flags seconds entry c.requires.agree place other at (c.index-entries-place.is ∙ ap (λ (es : List Entry). get_or es place other) same)
+    one_key own flags seconds entry c.requires.agree index other at (c.index-entries-index.is ∙ ap (λ (es : List Entry). get_or es index other) same)
 
 pub returns-in_ok-add_left-in-Some-clause-joined : goal.returns-in_ok-add_left-in-Some-clause-joined
 returns-in_ok-add_left-in-Some-clause-joined c =
@@ -45,14 +45,14 @@ returns-in_ok-add_left-in-Some-clause-joined c =
     let own = c.args.second.now.header.flags in
     let entry = c.args.entry.now in
     let seconds = c.args.second.now.entries in
-    let place = c.in-Some.place in
-    let other = c.index-entries-place.result in
-    let at : IsPlaceOf (λ e. key_of own e.change ≡ key_of flags entry.change) seconds place = search rules in
+    let index = c.in-Some.place in
+    let other = c.index-entries-index.result in
+    let at : IsIndexWhere (λ e. key_of own e.change ≡ key_of flags entry.change) seconds index = search rules in
     let same = c.entries.ensures.same ∙ ap (λ (g : GroupData). g.entries) c.group.ensures in
-    let is = c.index-entries-place.is ∙ ap (λ (es : List Entry). get_or es place other) same in
+    let is = c.index-entries-index.is ∙ ap (λ (es : List Entry). get_or es index other) same in
     let once = rw c.group.ensures at c.entries.ensures.well_formed.once in
     c.in_ok-add_left-in-Some.ensures.added
-    ∙ ap (λ (o : Option Entry). c.args.joined.now.entries ++ option_to_list o) (c.in_ok-left-in-Some.ensures.left ∙ sym (outcome_both own flags seconds entry c.requires.agree place other at is once))
+    ∙ ap (λ (o : Option Entry). c.args.joined.now.entries ++ option_to_list o) (c.in_ok-left-in-Some.ensures.left ∙ sym (outcome_both own flags seconds entry c.requires.agree index other at is once))
 
 pub returns-in_ok-add_left-in-Some-clause-found : goal.returns-in_ok-add_left-in-Some-clause-found
 returns-in_ok-add_left-in-Some-clause-found c =
@@ -60,5 +60,5 @@ returns-in_ok-add_left-in-Some-clause-found c =
     let own = c.args.second.now.header.flags in
     let entry = c.args.entry.now in
     let seconds = c.args.second.now.entries in
-    let at : IsPlaceOf (λ e. key_of own e.change ≡ key_of flags entry.change) seconds c.in-Some.place = search rules in
+    let at : IsIndexWhere (λ e. key_of own e.change ≡ key_of flags entry.change) seconds c.in-Some.place = search rules in
     place_of own flags seconds entry c.requires.agree c.in-Some.place at

@@ -5,7 +5,7 @@ use Rattle.std.proofs.lemmas.List.{length-replicate, length-set, take_all}
 use Rattle.cs_wire_entries.specs.declared.entry.Entry.{Entry}
 use Rattle.cs_wire.specs.Changeset.{GroupData}
 use Rattle.cs_wire.specs.Entry.{key_of}
-use Rattle.cs_wire.specs.Views.{IsPlaceOf}
+use Rattle.cs_wire.specs.Views.{IsIndexWhere}
 use Rattle.cs_group.specs.Joining.{outcome, joined_entry}
 use Rattle.cs_group.proofs.MarkLemmas.{AreMet-none, AreMet-other, AreMet-marked, apart_of}
 use Rattle.cs_value.proofs.ListLemmas.{filter_map_more, take_more_at}
@@ -24,23 +24,23 @@ loop-entry-preserved c =
     let start = c.args.joined.now.entries in
     let so = c.loop-entry.invariant in
     let grown : c.join_entry.new.joined.entries ≡ start ++ filter_map becomes (take (i + 1) items) =
-    c.in_ok-place.ensures.joined ∙ ap (λ (l : List Entry). l ++ option_to_list (becomes entry)) so.0 ∙ append_assoc start (filter_map becomes (take i items)) (option_to_list (becomes entry))
+    c.in_ok-index.ensures.joined ∙ ap (λ (l : List Entry). l ++ option_to_list (becomes entry)) so.0 ∙ append_assoc start (filter_map becomes (take i items)) (option_to_list (becomes entry))
     ∙ ap (λ (l : List Entry). start ++ l) (filter_map_more items i entry c.loop-entry-test.true c.entry-item.is becomes) in
     let once = rw c.group.ensures at c.entries.ensures.well_formed.once in
     let flags_stay = c.join_entry.ensures.same_flags ∙ so.3 in
     let at = take_more_at items i entry c.loop-entry-test.true c.entry-item.is in
     elim c.match-branch-3.branch [
       | in-Some w ↦
-          let place = w.in-Some.place in
-          let found : IsPlaceOf (λ e. key e ≡ key entry) seconds place = rw w.in-Some.is at c.in_ok-place.ensures.found in (
+          let index = w.in-Some.place in
+          let found : IsIndexWhere (λ e. key e ≡ key entry) seconds index = rw w.in-Some.is at c.in_ok-index.ensures.found in (
             grown,
-            rw (w.met-is, at) (AreMet-marked key c.loop-entry.met.items (take i items) seconds entry so.1 place (apart_of c.args.second.now.header.flags flags seconds entry c.requires.agree once) so.2 found),
-            rw w.met-is (length-set c.loop-entry.met.items place true ∙ so.2),
+            rw (w.met-is, at) (AreMet-marked key c.loop-entry.met.items (take i items) seconds entry so.1 index (apart_of c.args.second.now.header.flags flags seconds entry c.requires.agree once) so.2 found),
+            rw w.met-is (length-set c.loop-entry.met.items index true ∙ so.2),
             flags_stay,
           )
       | in_default w ↦
-          let absent : IsTrue (is_none c.in_ok-place.field-0) → All (λ e. key e ≢ key entry) seconds = c.in_ok-place.ensures.absent in
-          let none : IsTrue (is_none c.in_ok-place.field-0) = rw w.in_default.is refl in (
+          let absent : IsTrue (is_none c.in_ok-index.field-0) → All (λ e. key e ≢ key entry) seconds = c.in_ok-index.ensures.absent in
+          let none : IsTrue (is_none c.in_ok-index.field-0) = rw w.in_default.is refl in (
             grown,
             rw (w.met-is, at) (AreMet-other key c.loop-entry.met.items (take i items) seconds entry so.1 (absent none)),
             rw w.met-is so.2,

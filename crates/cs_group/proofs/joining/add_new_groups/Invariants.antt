@@ -6,6 +6,6 @@ use Rattle.cs_group.specs.Joining.{is_new}
 use Rattle.cs_group.specs.Marks.{AreMet}
 use Rattle.cs_group.proofs.joining.add_new_groups.Given as goal
 
-abbrev pub invariant-loop-place : goal.invariant-loop-place
-invariant-loop-place l = (firsts : List GroupData) → AreMet (λ g. g.header.name) l.met firsts l.second
+abbrev pub invariant-loop-index : goal.invariant-loop-index
+invariant-loop-index l = (firsts : List GroupData) → AreMet (λ g. g.header.name) l.met firsts l.second
     → l.groups.items ≡ l.initial.groups.items ++ filter (is_new (λ g. g.header.name) firsts) (take l.place l.second)

@@ -2,9 +2,9 @@
 use Rattle.std.proofs.Common.{◌≡◌, ◌≢◌, ◌++◌, [], ◌∷◌, All, List, Option, get_or, ap, sym, ◌∙◌, rules}
 use Rattle.std.specs.Prelude.{option_to_list}
 use Rattle.cs_wire.specs.Changeset.{GroupData}
-use Rattle.cs_wire.specs.Views.{IsPlaceOf}
+use Rattle.cs_wire.specs.Views.{IsIndexWhere}
 use Rattle.cs_group.specs.Joining.{joined_group}
-use Rattle.cs_group.proofs.TextLemmas.{with_text-none, with_text-place}
+use Rattle.cs_group.proofs.TextLemmas.{with_text-none, with_text-index}
 use Rattle.cs_group.proofs.joining.join_group.Goals as goal
 
 pub returns-in_ok-push-in-None-clause-joined : goal.returns-in_ok-push-in-None-clause-joined
@@ -21,12 +21,12 @@ join_groups-requires c =
     let name = λ (g : GroupData). g.header.name in
     let group = c.args.group.now in
     let seconds = c.args.second.now in
-    let place = c.in-Some.place in
-    let other = c.index-groups-place.result in
+    let index = c.in-Some.place in
+    let other = c.index-groups-index.result in
     let same = c.groups.ensures.same in
-    let at : IsPlaceOf (λ g. g.header.name ≡ group.header.name) seconds place = search rules in
-    let is = c.index-groups-place.is ∙ ap (λ (gs : List GroupData). get_or gs place other) same in
-    let found = with_text-place name seconds (name group) place other c.groups.ensures.well_formed.once at is in
+    let at : IsIndexWhere (λ g. g.header.name ≡ group.header.name) seconds index = search rules in
+    let is = c.index-groups-index.is ∙ ap (λ (gs : List GroupData). get_or gs index other) same in
+    let found = with_text-index name seconds (name group) index other c.groups.ensures.well_formed.once at is in
     record { agree = rw (← found) at c.requires.agree }
 
 pub returns-in_ok-push_some-in-Some-clause-joined : goal.returns-in_ok-push_some-in-Some-clause-joined
@@ -34,11 +34,11 @@ returns-in_ok-push_some-in-Some-clause-joined c =
     let name = λ (g : GroupData). g.header.name in
     let group = c.args.group.now in
     let seconds = c.args.second.now in
-    let place = c.in-Some.place in
-    let other = c.index-groups-place.result in
+    let index = c.in-Some.place in
+    let other = c.index-groups-index.result in
     let same = c.groups.ensures.same in
-    let at : IsPlaceOf (λ g. g.header.name ≡ group.header.name) seconds place = search rules in
-    let is = c.index-groups-place.is ∙ ap (λ (gs : List GroupData). get_or gs place other) same in
-    let found = with_text-place name seconds (name group) place other c.groups.ensures.well_formed.once at is in
+    let at : IsIndexWhere (λ g. g.header.name ≡ group.header.name) seconds index = search rules in
+    let is = c.index-groups-index.is ∙ ap (λ (gs : List GroupData). get_or gs index other) same in
+    let found = with_text-index name seconds (name group) index other c.groups.ensures.well_formed.once at is in
     c.in_ok-push_some-in-Some.ensures
     ∙ ap (λ (o : Option GroupData). c.args.groups.now.items ++ option_to_list o) (c.in_ok-join_groups-in-Some.ensures ∙ ap (joined_group group) found)

@@ -4,7 +4,7 @@ use Rattle.std.specs.Prelude.{IsTrue, is_none, filter_map, option_to_list}
 use Rattle.std.proofs.lemmas.List.{length-replicate, length-set, take_all}
 use Rattle.cs_value.proofs.ListLemmas.{filter_map_more, take_more_at}
 use Rattle.cs_wire.specs.Changeset.{GroupData}
-use Rattle.cs_wire.specs.Views.{IsPlaceOf}
+use Rattle.cs_wire.specs.Views.{IsIndexWhere}
 use Rattle.cs_group.specs.Joining.{outcome, joined_group}
 use Rattle.cs_group.proofs.JoinLemmas.{agree_found}
 use Rattle.cs_group.proofs.MarkLemmas.{AreMet-none, AreMet-other, AreMet-marked}
@@ -39,21 +39,21 @@ loop-group-preserved c =
     let start = c.args.groups.now.items in
     let so = c.loop-group.invariant in
     let grown : c.join_group.new.groups.items ≡ start ++ filter_map becomes (take (i + 1) items) =
-    c.in_ok-place.ensures.joined ∙ ap (λ (l : List GroupData). l ++ option_to_list (becomes group)) so.0 ∙ append_assoc start (filter_map becomes (take i items)) (option_to_list (becomes group))
+    c.in_ok-index.ensures.joined ∙ ap (λ (l : List GroupData). l ++ option_to_list (becomes group)) so.0 ∙ append_assoc start (filter_map becomes (take i items)) (option_to_list (becomes group))
     ∙ ap (λ (l : List GroupData). start ++ l) (filter_map_more items i group c.loop-group-test.true c.group-item.is becomes) in
     let at = take_more_at items i group c.loop-group-test.true c.group-item.is in
     elim c.match-branch-3.branch [
       | in-Some w ↦
-          let place = w.in-Some.place in
-          let found : IsPlaceOf (λ g. name g ≡ name group) seconds place = rw w.in-Some.is at c.in_ok-place.ensures.found in (
+          let index = w.in-Some.place in
+          let found : IsIndexWhere (λ g. name g ≡ name group) seconds index = rw w.in-Some.is at c.in_ok-index.ensures.found in (
             grown,
-            rw (w.met-is, at) (AreMet-marked name c.loop-group.met.items (take i items) seconds group so.1 place c.groups.ensures.well_formed.once so.2 found),
-            rw w.met-is (length-set c.loop-group.met.items place true ∙ so.2),
+            rw (w.met-is, at) (AreMet-marked name c.loop-group.met.items (take i items) seconds group so.1 index c.groups.ensures.well_formed.once so.2 found),
+            rw w.met-is (length-set c.loop-group.met.items index true ∙ so.2),
           )
       | in_default w ↦
-          let none : IsTrue (is_none c.in_ok-place.field-0) = rw w.in_default.is refl in (
+          let none : IsTrue (is_none c.in_ok-index.field-0) = rw w.in_default.is refl in (
             grown,
-            rw (w.met-is, at) (AreMet-other name c.loop-group.met.items (take i items) seconds group so.1 (c.in_ok-place.ensures.absent none)),
+            rw (w.met-is, at) (AreMet-other name c.loop-group.met.items (take i items) seconds group so.1 (c.in_ok-index.ensures.absent none)),
             rw w.met-is so.2,
           )
     ]

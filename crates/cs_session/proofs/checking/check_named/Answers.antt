@@ -10,8 +10,8 @@ use Rattle.cs_session.proofs.checking.check_named.Goals as goal
 
 pub returns-in-Some-clause-attached : goal.returns-in-Some-clause-attached
 returns-in-Some-clause-attached g c = λ honest.
-    let is = rw c.as_slice.ensures at c.index-as_slice-place.is in
-    ok_named c.args.tables.now c.args.name.now c.in-Some.place c.in-Some.ensures.found c.index-as_slice-place.result is
+    let is = rw c.as_slice.ensures at c.index-as_slice-index.is in
+    ok_named c.args.tables.now c.args.name.now c.in-Some.index c.in-Some.ensures.found c.index-as_slice-index.result is
     c.check_table.result (HasAttached (g.B.Rows.state c.args.rows.now)) c.requires (c.check_table.ensures.attached honest)
 
 pub returns-in-Some-clause-refused : goal.returns-in-Some-clause-refused
@@ -20,8 +20,8 @@ returns-in-Some-clause-refused g c = λ honest.
     let tables = c.args.tables.now in
     let name = c.args.name.now in
     let found = c.in-Some.ensures.found in
-    let item = c.index-as_slice-place.result in
-    let is = rw c.as_slice.ensures at c.index-as_slice-place.is in
-    let named = item_named tables name c.in-Some.place found item is in
-    let lacks = Any-map_at tables c.in-Some.place item found.0 is attached_of (λ (t : AttachedTable). (t.name ≡ name) × (¬ HasAttached state t)) in
+    let item = c.index-as_slice-index.result in
+    let is = rw c.as_slice.ensures at c.index-as_slice-index.is in
+    let named = item_named tables name c.in-Some.index found item is in
+    let lacks = Any-map_at tables c.in-Some.index item found.0 is attached_of (λ (t : AttachedTable). (t.name ≡ name) × (¬ HasAttached state t)) in
     IfErr-weaker c.check_table.result _ _ (λ e refused. refuses_named state name _ (attached_of item) e (λ fails. lacks (named, fails)) refused) (c.check_table.ensures.refused honest)

@@ -3,7 +3,7 @@ use Rattle.std.proofs.Common.{sym, ap, subst, ◌∙◌, ◌≤◌, ◌+◌, len
 use Rattle.cs_shell_grammar.specs.Commands.{command_of}
 use Rattle.cs_shell_grammar.specs.Lines.{IsNothing}
 use Rattle.cs_shell_grammar.specs.LineReading.{line_in}
-use Rattle.cs_shell_tokens.specs.Stops.{Misfits}
+use Rattle.cs_shell_tokens.specs.Faults.{Misfits}
 use Rattle.cs_value.specs.declared.refusal.OrNoMemory.TheVariants as refusal
 use Rattle.cs_shell_grammar.proofs.LineLaws.{line_taken, line_again, spelled_is_some, refused}
 use Rattle.cs_shell_grammar.proofs.line.parse_line.Goals as goal

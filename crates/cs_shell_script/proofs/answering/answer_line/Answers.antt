@@ -3,7 +3,7 @@ use Rattle.std.proofs.Common.{inl}
 use Rattle.std.proofs.lemmas.Result.{err_from_is_err_and}
 use Rattle.sqlite.specs.Held.{state}
 use Rattle.cs_shell_grammar.specs.Commands.{command_of}
-use Rattle.cs_shell_script.specs.Script.{LineGives, not_text, nothing}
+use Rattle.cs_shell_script.specs.LineAnswers.{LineGives, not_text, nothing}
 use Rattle.cs_shell_script.proofs.CommandLemmas.{works_beside, line_unread, line_answered}
 use Rattle.cs_shell_script.proofs.answering.answer_line.Goals as goal
 

@@ -1,7 +1,7 @@
 -- `changesets::dump`: what it ensures.
 use Rattle.std.proofs.Common.{Some, ap, ◌∙◌}
 use Rattle.std.proofs.lemmas.Result.{err_from_is_err_and}
-use Rattle.cs_shell_script.specs.Script.{dumped, nothing_to_dump}
+use Rattle.cs_shell_script.specs.LineAnswers.{dumped, nothing_to_dump}
 use Rattle.cs_shell_script.proofs.ReplyLemmas.{gives_not_dumped}
 use Rattle.cs_shell_script.proofs.changesets.dump.Goals as goal
 

@@ -1,6 +1,6 @@
 -- `changesets::invert`: what it ensures.
 use Rattle.std.proofs.lemmas.Result.{err_from_is_err_and}
-use Rattle.cs_shell_script.specs.Script.{inverted, nothing_to_invert, unable}
+use Rattle.cs_shell_script.specs.LineAnswers.{inverted, nothing_to_invert, unable}
 use Rattle.cs_shell_script.proofs.ReplyLemmas.{gives_not_inverted}
 use Rattle.cs_shell_script.proofs.changesets.invert.Goals as goal
 

@@ -1,7 +1,7 @@
 -- `changesets::join`: what it ensures.
 use Rattle.std.proofs.Common.{inl, inr}
 use Rattle.std.proofs.lemmas.Result.{err_from_is_err_and}
-use Rattle.cs_shell_script.specs.Script.{joined, nothing_to_join, unable}
+use Rattle.cs_shell_script.specs.LineAnswers.{joined, nothing_to_join, unable}
 use Rattle.cs_shell_script.proofs.ReplyLemmas.{gives_not_joined}
 use Rattle.cs_shell_script.proofs.changesets.join.Goals as goal
 

@@ -1,6 +1,6 @@
 -- `changesets::load`: what it ensures.
 use Rattle.std.proofs.lemmas.Result.{err_from_is_err_and}
-use Rattle.cs_shell_script.specs.Script.{loaded, unable}
+use Rattle.cs_shell_script.specs.LineAnswers.{loaded, unable}
 use Rattle.cs_shell_script.proofs.ReplyLemmas.{gives_not_loaded}
 use Rattle.cs_shell_script.proofs.changesets.load.Goals as goal
 

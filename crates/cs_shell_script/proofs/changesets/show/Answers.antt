@@ -1,6 +1,6 @@
 -- `changesets::show`: what it ensures.
 use Rattle.std.proofs.lemmas.Result.{err_from_is_err_and}
-use Rattle.cs_shell_script.specs.Script.{shown, nothing_to_show, unable}
+use Rattle.cs_shell_script.specs.LineAnswers.{shown, nothing_to_show, unable}
 use Rattle.cs_shell_script.proofs.changesets.show.Goals as goal
 
 pub returns-in_err-bytes : goal.returns-in_err-bytes

@@ -1,6 +1,6 @@
 -- `sessions::attach`: what it ensures.
 use Rattle.std.proofs.lemmas.Result.{err_from_is_err_and}
-use Rattle.cs_shell_script.specs.Script.{AttachGives}
+use Rattle.cs_shell_script.specs.LineAnswers.{AttachGives}
 use Rattle.cs_shell_script.proofs.SessionTurnLemmas.{works_none, works_attached, works_unattached}
 use Rattle.cs_shell_script.proofs.sessions.attach.Goals as goal
 

@@ -1,6 +1,6 @@
 -- `sessions::undo`: what it ensures.
 use Rattle.std.proofs.lemmas.Result.{err_from_is_err_and}
-use Rattle.cs_shell_script.specs.Script.{UndoGives}
+use Rattle.cs_shell_script.specs.LineAnswers.{UndoGives}
 use Rattle.cs_shell_script.proofs.SessionTurnLemmas.{works_none, works_undone, works_not_undone}
 use Rattle.cs_shell_script.proofs.sessions.undo.Goals as goal
 

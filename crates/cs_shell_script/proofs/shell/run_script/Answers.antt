@@ -9,7 +9,7 @@ pub returns-clause-ran : goal.returns-clause-ran
 returns-clause-ran g c =
     let same : c.run_shell.new.shell.store.now ≡ c.store-1.given.0 = search rules in
     rw (← same)
-    (begins g.R.Read.remaining g.W.Write.contents _ c.run_shell.new.shell.is_settled (state g.S.Store c.args.store.now) (state g.S.Store c.run_shell.new.shell.store.now) c.new-work.result c.run_shell.new.shell.work.now _ _ _ _ c.new-work.ensures.slots c.new-work.ensures.session
+    (begins g.R.Read.remaining g.W.Write.contents _ c.run_shell.new.shell.is_at_rest (state g.S.Store c.args.store.now) (state g.S.Store c.run_shell.new.shell.store.now) c.new-work.result c.run_shell.new.shell.work.now _ _ _ _ c.new-work.ensures.slots c.new-work.ensures.session
     (c.run_shell.ensures.ran false))
 
 pub returns-clause-at_rest : goal.returns-clause-at_rest

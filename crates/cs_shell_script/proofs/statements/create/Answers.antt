@@ -5,7 +5,7 @@ use Rattle.std.proofs.lemmas.Result.{err_from_is_err_and}
 use Rattle.sqlite.specs.Held.{state}
 use Rattle.cs_store.specs.Store.{tables_in}
 use Rattle.cs_shell_replies.specs.Replies.{Silent}
-use Rattle.cs_shell_script.specs.Script.{CreateGives}
+use Rattle.cs_shell_script.specs.LineAnswers.{CreateGives}
 use Rattle.cs_shell_script.specs.Works.{Gave}
 use Rattle.cs_shell_script.proofs.StatementLemmas.{create_unknown, create_refused, create_declares}
 use Rattle.cs_shell_script.proofs.TurnLemmas.{works_still, works_refused, turns_done}

@@ -6,7 +6,7 @@ use Rattle.cs_store.specs.Editing.{edited, written_of}
 use Rattle.cs_store.specs.Store.{tables_in}
 use Rattle.cs_shell_replies.specs.ErrorLines.{of_store}
 use Rattle.cs_shell_replies.specs.Replies.{Silent}
-use Rattle.cs_shell_script.specs.Script.{EditGives}
+use Rattle.cs_shell_script.specs.LineAnswers.{EditGives}
 use Rattle.cs_shell_script.specs.Works.{Gave}
 use Rattle.cs_shell_script.proofs.SessionLemmas.{store_edits, store_refuses_edit}
 use Rattle.cs_shell_script.proofs.TurnLemmas.{works_refused, turns_done, unable_as, resource_of_store}

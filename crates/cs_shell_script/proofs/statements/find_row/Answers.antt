@@ -3,7 +3,7 @@ use Rattle.std.proofs.Common.{map, inl, inr, refl, sym, ◌∙◌}
 use Rattle.std.proofs.lemmas.Result.{err_from_is_err_and}
 use Rattle.sqlite.specs.Held.{state}
 use Rattle.cs_shell_grammar.specs.Commands.{assignment_of}
-use Rattle.cs_shell_script.specs.Script.{found, null_key}
+use Rattle.cs_shell_script.specs.LineAnswers.{found, null_key}
 use Rattle.cs_shell_script.proofs.StatementLemmas.{finds_resource, finds_unset, finds_unnamed, finds_no_table}
 use Rattle.cs_shell_script.proofs.TurnLemmas.{reads}
 use Rattle.cs_shell_script.proofs.statements.find_row.Goals as goal

@@ -2,7 +2,7 @@
 use Rattle.std.proofs.Common.{inr}
 use Rattle.std.proofs.lemmas.Result.{err_from_is_err_and}
 use Rattle.sqlite.specs.Held.{state}
-use Rattle.cs_shell_script.specs.Script.{SelectGives}
+use Rattle.cs_shell_script.specs.LineAnswers.{SelectGives}
 use Rattle.cs_shell_script.proofs.StatementLemmas.{select_refused, select_gives}
 use Rattle.cs_shell_script.proofs.TurnLemmas.{works_read}
 use Rattle.cs_shell_script.proofs.statements.select.Goals as goal

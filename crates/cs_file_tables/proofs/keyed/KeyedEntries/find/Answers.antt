@@ -6,8 +6,8 @@ use Rattle.cs_file_tables.specs.KeyedFile.{KeyedFile, count_of}
 use Rattle.cs_file_tables.proofs.KeyedLemmas.{NoneFrom, NoneFrom-end, NoneFrom-before, NoneFrom-all}
 use Rattle.cs_file_tables.proofs.keyed.KeyedEntries.find.Goals as goal
 
-pub places-init : goal.places-init
-places-init c =
+pub indices-init : goal.indices-init
+indices-init c =
     let self = c.args.self.now in
     let end = c.end-end.result in
     let chains : c.self.inside.chains ≡ self.chains = ap (λ (k : KeyedFile). k.chains) c.self.view_is in
@@ -20,22 +20,22 @@ places-init c =
 pub returns-in-Some-clause-found : goal.returns-in-Some-clause-found
 returns-in-Some-clause-found c = λ entries groups keyed. rw c.in-Some.is at (c.in_ok-entry.ensures.found entries groups keyed)
 
-pub places-preserved : goal.places-preserved
-places-preserved c =
+pub indices-preserved : goal.indices-preserved
+indices-preserved c =
     let self = c.args.self.now in
-    let so = c.places.invariant in
-    let place = c.places.end - 1 in
-    let step : c.places.end ≡ place + 1 = omega (arith, c.places-test.true) in
+    let so = c.indices.invariant in
+    let place = c.indices.end - 1 in
+    let step : c.indices.end ≡ index + 1 = omega (arith, c.indices-test.true) in
     let chains : c.self.inside.chains ≡ self.chains = ap (λ (k : KeyedFile). k.chains) c.self.view_is in
-    let before : IsEnd self.chains (bucket_at self.chains place) place c.before-end.result = rw (← chains) c.before-end.ensures in
-    let bucket : bucket_at self.chains place ≡ bucket_of self.chains c.number_of-number.result = so.1 place step in (
+    let before : IsEnd self.chains (bucket_at self.chains index) index c.before-end.result = rw (← chains) c.before-end.ensures in
+    let bucket : bucket_at self.chains index ≡ bucket_of self.chains c.number_of-number.result = so.1 index step in (
       omega (arith, before.within, so.0),
       λ other is. before.last other is ∙ bucket,
       λ entries groups keyed.
-          NoneFrom-before self entries groups keyed c.args.key.now place c.before-end.result before (bucket ∙ ap (bucket_of self.chains) c.number_of-number.ensures)
+          NoneFrom-before self entries groups keyed c.args.key.now index c.before-end.result before (bucket ∙ ap (bucket_of self.chains) c.number_of-number.ensures)
           (c.in_ok-entry.ensures.absent entries groups keyed (ap is_none c.in_default.is)) (subst (λ (end : ℕ). NoneFrom self entries c.args.key.now end) step (so.2 entries groups keyed)),
     )
 
 pub returns-clause-absent : goal.returns-clause-absent
 returns-clause-absent c = λ entries groups keyed none.
-    NoneFrom-all c.args.self.now entries groups keyed c.args.key.now c.places.end (omega (arith, c.places-test.false)) (c.places.invariant.2 entries groups keyed)
+    NoneFrom-all c.args.self.now entries groups keyed c.args.key.now c.indices.end (omega (arith, c.indices-test.false)) (c.indices.invariant.2 entries groups keyed)

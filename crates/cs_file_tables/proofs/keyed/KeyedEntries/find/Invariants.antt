@@ -7,10 +7,10 @@ use Rattle.cs_file_tables.specs.KeyedFile.{AreKeyed, count_of}
 use Rattle.cs_file_tables.proofs.KeyedLemmas.{NoneFrom}
 use Rattle.cs_file_tables.proofs.keyed.KeyedEntries.find.Given as goal
 
-abbrev pub invariant-places : goal.invariant-places
-invariant-places l =
-    (l.end ≤ count_of l.self) × ((place : ℕ) → l.end ≡ place + 1 → bucket_at l.self.chains place ≡ bucket_of l.self.chains l.number)
+abbrev pub invariant-indices : goal.invariant-indices
+invariant-indices l =
+    (l.end ≤ count_of l.self) × ((index : ℕ) → l.end ≡ index + 1 → bucket_at l.self.chains index ≡ bucket_of l.self.chains l.number)
     × ((entries : List Entry) (groups : List GroupData) → AreKeyed l.self entries groups → NoneFrom l.self entries l.key l.end)
 
-abbrev pub decreases-places : goal.decreases-places
-decreases-places l = l.end
+abbrev pub decreases-indices : goal.decreases-indices
+decreases-indices l = l.end

@@ -8,9 +8,9 @@ use Rattle.cs_file_tables.proofs.named.NamedTables.find.Goals as goal
 pub returns-clause-found : goal.returns-clause-found
 returns-clause-found c =
     let inside = c.self.inside in
-    rw (← c.self.view_is) (is_found (λ (t : NamedTable). t.header.name) inside.places (map table_of inside.tables.items) c.args.name.now c.self.invariant.0 c.get.result (c.get.ensures ∙ ap (get inside.places) c.as_bytes.ensures.value))
+    rw (← c.self.view_is) (is_found (λ (t : NamedTable). t.header.name) inside.indices (map table_of inside.tables.items) c.args.name.now c.self.invariant.0 c.get.result (c.get.ensures ∙ ap (get inside.indices) c.as_bytes.ensures.value))
 
 pub returns-clause-absent : goal.returns-clause-absent
 returns-clause-absent c =
     let inside = c.self.inside in
-    rw (← c.self.view_is) (is_new (λ (t : NamedTable). t.header.name) inside.places (map table_of inside.tables.items) c.args.name.now c.self.invariant.0 c.get.result (c.get.ensures ∙ ap (get inside.places) c.as_bytes.ensures.value))
+    rw (← c.self.view_is) (is_new (λ (t : NamedTable). t.header.name) inside.indices (map table_of inside.tables.items) c.args.name.now c.self.invariant.0 c.get.result (c.get.ensures ∙ ap (get inside.indices) c.as_bytes.ensures.value))

@@ -13,8 +13,8 @@ pub invariant_of-self-in-Ok : goal.invariant_of-self-in-Ok
 invariant_of-self-in-Ok c =
     let inside = c.self.inside in
     let tables = map table_of inside.tables.items in
-    let place : c.len-place.result ≡ length tables = omega (arith, c.len-place.ensures, length-map inside.tables.items table_of) in
+    let index : c.len-index.result ≡ length tables = omega (arith, c.len-index.ensures, length-map inside.tables.items table_of) in
     let grown = ap (map table_of) c.in_ok-push.ensures.items ∙ map-append table_of inside.tables.items _ in (
-      rw grown (IsIndex-grown (λ (t : NamedTable). t.header.name) inside.places c.insert.new.self tables (table_of c.args.table) c.as_bytes.result.now c.len-place.result c.self.invariant.0 (sym c.as_bytes.ensures.value) place c.in-Ok.ensures.ok),
+      rw grown (IsIndex-grown (λ (t : NamedTable). t.header.name) inside.indices c.insert.new.self tables (table_of c.args.table) c.as_bytes.result.now c.len-index.result c.self.invariant.0 (sym c.as_bytes.ensures.value) index c.in-Ok.ensures.ok),
       rw c.in_ok-push.ensures.items (AllByRecursion-push (λ (t : ListedTable). IsHeader (header_of t.header)) inside.tables.items c.args.table c.self.invariant.1 c.requires),
     )

@@ -1,7 +1,7 @@
 -- `tables::Tables::next_entry`: what it ensures.
 use Rattle.std.proofs.Common.{◌≡◌, ◌<◌, ◌≤◌, [], sym, subst, arith}
 use Rattle.std.proofs.lemmas.Bool.{iff_false}
-use Rattle.cs_file_tables.specs.Tables.{TablesData, AreLeft, IsNextEntry}
+use Rattle.cs_file_tables.specs.Tables.{TablesData, EntriesLeft, IsNextEntry}
 use Rattle.cs_wire_entries.proofs.EntryLemmas.{entry_bytes_some}
 use Rattle.cs_wire_entries.proofs.ReadingLemmas.{Stands-moves}
 use Rattle.cs_file_tables.proofs.TablesLemmas.{no_entry_left, entry_left, entry_passed}
@@ -10,19 +10,19 @@ use Rattle.cs_file_tables.proofs.tables.Tables.next_entry.Goals as goal
 pub returns-then-not-has_entry-clause-next : goal.returns-then-not-has_entry-clause-next
 returns-then-not-has_entry-clause-next c = λ entries groups left.
     let v = c.self.view_is in
-    let so = subst (λ (t : TablesData). AreLeft t entries groups) (sym v) left in
-    subst (λ (t : TablesData). (entries ≡ []) × (t.flags ≡ t.flags) × AreLeft t [] groups) v (no_entry_left _ entries groups so (iff_false c.has_entry.ensures c.if-not-has_entry.true))
+    let so = subst (λ (t : TablesData). EntriesLeft t entries groups) (sym v) left in
+    subst (λ (t : TablesData). (entries ≡ []) × (t.flags ≡ t.flags) × EntriesLeft t [] groups) v (no_entry_left _ entries groups so (iff_false c.has_entry.ensures c.if-not-has_entry.true))
 
 pub returns-in_default-clause-next : goal.returns-in_default-clause-next
 returns-in_default-clause-next c = λ entries groups left.
-    let so = subst (λ (t : TablesData). AreLeft t entries groups) (sym c.self.view_is) left in
+    let so = subst (λ (t : TablesData). EntriesLeft t entries groups) (sym c.self.view_is) left in
     let next = entry_left _ entries groups so (c.has_entry.ensures.0 c.if-not-has_entry.false) in
     absurd (c.in_default.ensures.only next.0 _ next.3 next.4)
 
 pub returns-clause-next : goal.returns-clause-next
 returns-clause-next c = λ entries groups left.
     let v = c.self.view_is in
-    let so = subst (λ (t : TablesData). AreLeft t entries groups) (sym v) left in
+    let so = subst (λ (t : TablesData). EntriesLeft t entries groups) (sym v) left in
     let read = c.in-Ok.ensures in
     let i = c.self.inside in
     let after : TablesData = record { file = i.file.now; place = c.in-Ok.end; flags = i.flags.now } in

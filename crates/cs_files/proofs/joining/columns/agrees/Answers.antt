@@ -1,7 +1,7 @@
 -- `joining::columns::agrees`: what it ensures.
 use Rattle.std.proofs.Common.{refl, sym, ap, ◌∙◌}
 use Rattle.cs_wire.specs.Changeset.{HeaderData}
-use Rattle.cs_group.specs.Joining.{key_places}
+use Rattle.cs_group.specs.Joining.{key_marks}
 use Rattle.cs_group.proofs.JoinLemmas.{agrees_unfound}
 use Rattle.cs_files.proofs.JoiningLemmas.{unlisted, agrees_there, there_agrees}
 use Rattle.cs_files.proofs.joining.columns.agrees.Goals as goal
@@ -14,11 +14,11 @@ returns-in-None c = λ groups group listed is same. (
 
 pub returns-in-Some : goal.returns-in-Some
 returns-in-Some c = λ groups group listed is same.
-    let place = c.in-Some.place in
+    let index = c.in-Some.place in
     let name = ap (λ (h : HeaderData). h.name) same in
-    let flags = ap (λ (h : HeaderData). key_places h.flags) same in
-    let own = ap (λ (h : HeaderData). key_places h.flags) c.header.ensures.same in
+    let flags = ap (λ (h : HeaderData). key_marks h.flags) same in
+    let own = ap (λ (h : HeaderData). key_marks h.flags) c.header.ensures.same in
     let columns = c.have_same_columns.ensures in (
-      λ yes. agrees_there c.args.known.now groups listed is c.args.header.now.name.now place c.in-Some.ensures.found group name (sym own ∙ columns.0 yes ∙ flags),
-      λ agrees. columns.1 (own ∙ there_agrees c.args.known.now groups listed is c.args.header.now.name.now place c.in-Some.ensures.found group name agrees ∙ sym flags),
+      λ yes. agrees_there c.args.known.now groups listed is c.args.header.now.name.now index c.in-Some.ensures.found group name (sym own ∙ columns.0 yes ∙ flags),
+      λ agrees. columns.1 (own ∙ there_agrees c.args.known.now groups listed is c.args.header.now.name.now index c.in-Some.ensures.found group name agrees ∙ sym flags),
     )

@@ -11,28 +11,28 @@ use Rattle.cs_files.proofs.joining.columns.first_clash.Goals as goal
 
 pub returns-then-not-agrees-clause-clash : goal.returns-then-not-agrees-clause-clash
 returns-then-not-agrees-clause-clash c = λ groups others known is added.
-    let place = c.loop-place.place in
+    let index = c.loop-index.place in
     let named = c.args.added.now in
-    let lt = rw c.len-place-end.ensures at c.loop-place-test.true in
+    let lt = rw c.len-index-end.ensures at c.loop-index-test.true in
     record {
-      within = group_within named others added place lt;
-      before = c.loop-place.invariant groups others known is added;
+      within = group_within named others added index lt;
+      before = c.loop-index.invariant groups others known is added;
       clash = λ d agrees.
-          let yes = (c.agrees.ensures groups (get_or others place d) known is (c.header.ensures.same ∙ (table_at named.file named.tables others [] place no_table d added lt).header)).1 agrees in
+          let yes = (c.agrees.ensures groups (get_or others index d) known is (c.header.ensures.same ∙ (table_at named.file named.tables others [] index no_table d added lt).header)).1 agrees in
           absurd cc;
     }
 
-pub loop-place-preserved : goal.loop-place-preserved
-loop-place-preserved c = λ groups others known is added.
-    let place = c.loop-place.place in
+pub loop-index-preserved : goal.loop-index-preserved
+loop-index-preserved c = λ groups others known is added.
+    let index = c.loop-index.place in
     let named = c.args.added.now in
-    let lt = rw c.len-place-end.ensures at c.loop-place-test.true in
-    let group = group_at named others added place lt in
-    let agrees : AgreesWith groups group = (c.agrees.ensures groups group known is (c.header.ensures.same ∙ (table_of_group named others added place lt).header)).0 cc in
-    rw (take_more_at others place group (group_within named others added place lt) (group_at_is named others added place lt)) (All-push (AgreesWith groups) (take place others) group (c.loop-place.invariant groups others known is added) agrees)
+    let lt = rw c.len-index-end.ensures at c.loop-index-test.true in
+    let group = group_at named others added index lt in
+    let agrees : AgreesWith groups group = (c.agrees.ensures groups group known is (c.header.ensures.same ∙ (table_of_group named others added index lt).header)).0 cc in
+    rw (take_more_at others index group (group_within named others added index lt) (group_at_is named others added index lt)) (All-push (AgreesWith groups) (take index others) group (c.loop-index.invariant groups others known is added) agrees)
 
 pub returns-clause-none : goal.returns-clause-none
 returns-clause-none c = λ groups others known is added.
     let named = c.args.added.now in
-    let le : length others ≤ c.loop-place.place = omega (arith, c.loop-place-test.false, c.len-place-end.ensures, tables_length named.file named.tables others [] added) in
-    rw (take_all c.loop-place.place others le) at (c.loop-place.invariant groups others known is added)
+    let le : length others ≤ c.loop-index.place = omega (arith, c.loop-index-test.false, c.len-index-end.ensures, tables_length named.file named.tables others [] added) in
+    rw (take_all c.loop-index.place others le) at (c.loop-index.invariant groups others known is added)

@@ -4,7 +4,7 @@ use Rattle.std.specs.Prelude.{IsTrue, is_none}
 use Rattle.std.proofs.lemmas.List.{length-replicate, length-set}
 use Rattle.cs_wire_entries.specs.declared.entry.Entry.{Entry}
 use Rattle.cs_wire.specs.Entry.{entry_bytes, key_of}
-use Rattle.cs_wire.specs.Views.{IsPlaceOf}
+use Rattle.cs_wire.specs.Views.{IsIndexWhere}
 use Rattle.cs_group.specs.Joining.{joined_entry, outcome}
 use Rattle.cs_files.specs.Writing.{some_bytes}
 use Rattle.cs_file_tables.proofs.KeyedLemmas.{as_many}
@@ -35,18 +35,18 @@ entries-preserved-in-Some-2 c =
     let so = c.entries.invariant in
     let seen = c.in-Some.entry in
     let here = c.in-Some.ensures.flags.1 ∙ so.0 in
-    let place = c.in-Some-2.place in (
+    let index = c.in-Some-2.place in (
       c.in-Some.ensures.flags.0 ∙ so.0,
-      length-set c.entries.met.items place true ∙ so.1,
+      length-set c.entries.met.items index true ∙ so.1,
       λ entries others groups behind left keyed apart.
           let both = so.2 entries others groups behind left keyed apart in
-          let found : IsPlaceOf (λ e. key_of seconds.flags e.change ≡ key_of seen.flags seen.entry.change) others place = rw c.in-Some-2.is at (c.in_ok-place.ensures.found others behind keyed) in
-          let at : IsPlaceOf (λ e. key_of seconds.flags e.change ≡ key_of flags seen.entry.change) others place = rw here at found in
+          let found : IsIndexWhere (λ e. key_of seconds.flags e.change ≡ key_of seen.flags seen.entry.change) others index = rw c.in-Some-2.is at (c.in_ok-index.ensures.found others behind keyed) in
+          let at : IsIndexWhere (λ e. key_of seconds.flags e.change ≡ key_of flags seen.entry.change) others index = rw here at found in
           let width = so.1 ∙ as_many seconds others behind keyed in (
             WritesEntries-next (λ e. some_bytes entry_bytes (outcome (λ (f : Entry). key_of flags f.change) (joined_entry flags) others e)) flags c.args.out.now.items c.entries.out.items c.entries.left entries groups both.0
-                c.write_outcome.new.out.items c.next_entry.new.self seen (c.in-Some.ensures.next both.0.passed.others groups both.0.passed.are_left) (rw here at (c.in_ok-place.ensures.written others behind keyed apart)),
-            AreMet-marked (λ (e : Entry). key_of flags e.change) c.entries.met.items both.0.before others seen.entry both.1 place (apart_of seconds.flags flags others seen.entry c.requires.agree apart) width
-                (place_of seconds.flags flags others seen.entry c.requires.agree place at),
+                c.write_outcome.new.out.items c.next_entry.new.self seen (c.in-Some.ensures.next both.0.passed.others groups both.0.passed.are_left) (rw here at (c.in_ok-index.ensures.written others behind keyed apart)),
+            AreMet-marked (λ (e : Entry). key_of flags e.change) c.entries.met.items both.0.before others seen.entry both.1 index (apart_of seconds.flags flags others seen.entry c.requires.agree apart) width
+                (place_of seconds.flags flags others seen.entry c.requires.agree index at),
           ),
     )
 
@@ -57,14 +57,14 @@ entries-preserved c =
     let so = c.entries.invariant in
     let seen = c.in-Some.entry in
     let here = c.in-Some.ensures.flags.1 ∙ so.0 in
-    let none : IsTrue (is_none c.in_ok-place.field-0) = search rules in (
+    let none : IsTrue (is_none c.in_ok-index.field-0) = search rules in (
       c.in-Some.ensures.flags.0 ∙ so.0,
       so.1,
       λ entries others groups behind left keyed apart.
           let both = so.2 entries others groups behind left keyed apart in
-          let absent : All (λ e. key_of seconds.flags e.change ≢ key_of flags seen.entry.change) others = rw here at (c.in_ok-place.ensures.absent others behind keyed none) in (
+          let absent : All (λ e. key_of seconds.flags e.change ≢ key_of flags seen.entry.change) others = rw here at (c.in_ok-index.ensures.absent others behind keyed none) in (
             WritesEntries-next (λ e. some_bytes entry_bytes (outcome (λ (f : Entry). key_of flags f.change) (joined_entry flags) others e)) flags c.args.out.now.items c.entries.out.items c.entries.left entries groups both.0
-                c.write_outcome.new.out.items c.next_entry.new.self seen (c.in-Some.ensures.next both.0.passed.others groups both.0.passed.are_left) (rw here at (c.in_ok-place.ensures.written others behind keyed apart)),
+                c.write_outcome.new.out.items c.next_entry.new.self seen (c.in-Some.ensures.next both.0.passed.others groups both.0.passed.are_left) (rw here at (c.in_ok-index.ensures.written others behind keyed apart)),
             AreMet-other (λ (e : Entry). key_of flags e.change) c.entries.met.items both.0.before others seen.entry both.1 (keys_of seconds.flags flags others seen.entry c.requires.agree absent),
           ),
     )

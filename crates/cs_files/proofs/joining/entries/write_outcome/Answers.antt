@@ -2,7 +2,7 @@
 use Rattle.std.proofs.Common.{◌≡◌, ◌≢◌, ◌++◌, All, ap, sym, ◌∙◌}
 use Rattle.std.specs.Prelude.{is_none}
 use Rattle.cs_wire.specs.Entry.{entry_bytes, key_of}
-use Rattle.cs_wire.specs.Views.{IsPlaceOf}
+use Rattle.cs_wire.specs.Views.{IsIndexWhere}
 use Rattle.cs_files.specs.Writing.{some_bytes}
 use Rattle.cs_group.proofs.KeyPlaceLemmas.{key_of_same}
 use Rattle.cs_group.proofs.MarkLemmas.{outcome_alone, outcome_both}
@@ -37,8 +37,8 @@ returns-clause-found c = λ others behind keyed.
     let found = c.in-Some.found in
     let key = c.as_slice.ensures.value ∙ c.in_ok-key.ensures in
     let same : key_of own found.entry.entry.change ≡ c.as_slice.result.now = rw c.in-Some.is at c.in_ok-find.ensures.key in
-    let at : IsPlaceOf (λ e. e ≡ found.entry.entry) others found.place = rw c.in-Some.is at (c.in_ok-find.ensures.found others behind keyed) in
-    key_there own _ others found.place found.entry.entry at (same ∙ key)
+    let at : IsIndexWhere (λ e. e ≡ found.entry.entry) others found.index = rw c.in-Some.is at (c.in_ok-find.ensures.found others behind keyed) in
+    key_there own _ others found.index found.entry.entry at (same ∙ key)
 
 pub returns-clause-written : goal.returns-clause-written
 returns-clause-written c = λ others behind keyed apart.
@@ -48,7 +48,7 @@ returns-clause-written c = λ others behind keyed apart.
     let second = found.entry.entry in
     let key = c.as_slice.ensures.value ∙ c.in_ok-key.ensures in
     let same : key_of own second.change ≡ c.as_slice.result.now = rw c.in-Some.is at c.in_ok-find.ensures.key in
-    let at : IsPlaceOf (λ e. e ≡ second) others found.place = rw c.in-Some.is at (c.in_ok-find.ensures.found others behind keyed) in
-    let there = key_there own (key_of entry.flags entry.entry.change) others found.place second at (same ∙ key) in
+    let at : IsIndexWhere (λ e. e ≡ second) others found.index = rw c.in-Some.is at (c.in_ok-find.ensures.found others behind keyed) in
+    let there = key_there own (key_of entry.flags entry.entry.change) others found.index second at (same ∙ key) in
     c.in_ok-write_merged-in-Some.ensures
-    ∙ ap (λ o. c.args.out.now.items ++ some_bytes entry_bytes o) (sym (outcome_both own entry.flags others entry.entry c.requires.agree found.place second there (sym (at.holds second)) apart))
+    ∙ ap (λ o. c.args.out.now.items ++ some_bytes entry_bytes o) (sym (outcome_both own entry.flags others entry.entry c.requires.agree found.index second there (sym (at.holds second)) apart))

@@ -7,6 +7,6 @@ use Rattle.cs_group.specs.Joining.{AreJoinable, joined_group, outcome, table_nam
 use Rattle.cs_files.specs.Writing.{some_bytes}
 use Rattle.cs_files.proofs.joining.tables.write_kept_tables.Given as goal
 
-abbrev pub invariant-loop-place : goal.invariant-loop-place
-invariant-loop-place l = (groups others : List GroupData) → AreListed l.known groups → AreListed l.added others → IsChangeset others → AreJoinable groups others
+abbrev pub invariant-loop-index : goal.invariant-loop-index
+invariant-loop-index l = (groups others : List GroupData) → AreListed l.known groups → AreListed l.added others → IsChangeset others → AreJoinable groups others
     → l.out.items ≡ l.initial.out.items ++ flat_map (λ g. some_bytes group_bytes (outcome table_name joined_group others g)) (take l.place groups)

@@ -8,20 +8,20 @@ use Rattle.cs_files.proofs.JoiningLemmas.{new_flat, group_at, group_within, grou
 use Rattle.cs_files.proofs.PassLemmas.{written_next, written_last}
 use Rattle.cs_files.proofs.joining.tables.write_new_tables.Goals as goal
 
-pub loop-place-preserved : goal.loop-place-preserved
-loop-place-preserved c = λ groups others known is added.
-    let place = c.loop-place.place in
+pub loop-index-preserved : goal.loop-index-preserved
+loop-index-preserved c = λ groups others known is added.
+    let index = c.loop-index.place in
     let named = c.args.added.now in
-    let lt = rw c.len-place-end.ensures at c.loop-place-test.true in
-    let group = group_at named others added place lt in
+    let lt = rw c.len-index-end.ensures at c.loop-index-test.true in
+    let group = group_at named others added index lt in
     let text = λ (g : GroupData). some_bytes group_bytes (if_new table_name groups g) in
-    written_next text others place c.args.out.now.items c.loop-place.out.items (c.loop-place.invariant groups others known is added) group c.write_new_table.new.out.items _
-    (group_within named others added place lt) (group_at_is named others added place lt)
-    (c.in_ok-write_new_table.ensures group.entries groups (drop (suc place) others ++ []) known is (rw c.open.ensures (table_of_group named others added place lt).are_left))
-    (ap text (group_under named others added place lt _ c.header.ensures.same))
+    written_next text others index c.args.out.now.items c.loop-index.out.items (c.loop-index.invariant groups others known is added) group c.write_new_table.new.out.items _
+    (group_within named others added index lt) (group_at_is named others added index lt)
+    (c.in_ok-write_new_table.ensures group.entries groups (drop (suc index) others ++ []) known is (rw c.open.ensures (table_of_group named others added index lt).are_left))
+    (ap text (group_under named others added index lt _ c.header.ensures.same))
 
 pub returns : goal.returns
 returns c = λ groups others known is added.
     let named = c.args.added.now in
-    written_last (λ g. some_bytes group_bytes (if_new table_name groups g)) others c.loop-place.place c.args.out.now.items c.loop-place.out.items (c.loop-place.invariant groups others known is added) _
-    (omega (arith, c.loop-place-test.false, c.len-place-end.ensures, tables_length named.file named.tables others [] added)) (new_flat group_bytes table_name groups others)
+    written_last (λ g. some_bytes group_bytes (if_new table_name groups g)) others c.loop-index.place c.args.out.now.items c.loop-index.out.items (c.loop-index.invariant groups others known is added) _
+    (omega (arith, c.loop-index-test.false, c.len-index-end.ensures, tables_length named.file named.tables others [] added)) (new_flat group_bytes table_name groups others)

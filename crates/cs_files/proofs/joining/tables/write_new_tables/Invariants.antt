@@ -7,6 +7,6 @@ use Rattle.cs_group.specs.Joining.{if_new, table_name}
 use Rattle.cs_files.specs.Writing.{some_bytes}
 use Rattle.cs_files.proofs.joining.tables.write_new_tables.Given as goal
 
-abbrev pub invariant-loop-place : goal.invariant-loop-place
-invariant-loop-place l = (groups others : List GroupData) → AreListed l.known groups → IsChangeset groups → AreListed l.added others
+abbrev pub invariant-loop-index : goal.invariant-loop-index
+invariant-loop-index l = (groups others : List GroupData) → AreListed l.known groups → IsChangeset groups → AreListed l.added others
     → l.out.items ≡ l.initial.out.items ++ flat_map (λ g. some_bytes group_bytes (if_new table_name groups g)) (take l.place others)

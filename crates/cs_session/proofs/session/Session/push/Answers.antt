@@ -5,4 +5,4 @@ use Rattle.cs_session.proofs.session.Session.push.Goals as goal
 
 pub invariant_of-self-2 : goal.invariant_of-self-2
 invariant_of-self-2 c =
-    push_keeps c.self.inside.tables c.push.new.self c.args.name.now c.args.schema c.in_ok-push.ensures.pushed c.push.ensures.settled c.self.invariant c.requires.named (search rules) (rw c.self.view_is c.requires.fresh)
+    push_keeps c.self.inside.tables c.push.new.self c.args.name.now c.args.schema c.in_ok-push.ensures.pushed c.push.ensures.none_pending c.self.invariant c.requires.named (search rules) (rw c.self.view_is c.requires.fresh)

@@ -13,7 +13,7 @@ invariant_of-self-in-Ok c =
     let name : c.args.group.header.name ≡ c.in_ok-name.name.items = cc (c.header.ensures.same, c.name.ensures, c.as_bytes.ensures.value, c.in_ok-name.ensures.items) in
     rw c.in_ok-push.ensures.items (
       IsChangeset-push inside.groups.items c.args.group c.self.invariant.0 whole fresh,
-      IsIndex-grown (λ (g : GroupData). g.header.name) inside.places c.insert.new.self inside.groups.items c.args.group c.in_ok-name.name.items c.len-place.result c.self.invariant.1 name (omega arith) (c.in-Ok.ensures.ok),
+      IsIndex-grown (λ (g : GroupData). g.header.name) inside.indices c.insert.new.self inside.groups.items c.args.group c.in_ok-name.name.items c.len-index.result c.self.invariant.1 name (omega arith) (c.in-Ok.ensures.ok),
     )
 
 pub returns-in-Ok-clause-well_formed : goal.returns-in-Ok-clause-well_formed

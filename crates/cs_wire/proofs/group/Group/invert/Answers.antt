@@ -15,7 +15,7 @@ invariant_of-self c =
     let changed = c.invert_entries.ensures ∙ ap (λ (f : List ℕ). map (inverse_entry f) c.deref_mut.result.now) c.flags.ensures.same ∙ ap (map inverse) c.deref_mut.ensures.value in
     let whole = written_whole inside.entries.items c.invert_entries.new.entries inside.entries.len (omega arith) (ap length changed ∙ length-map inside.entries.items inverse) ∙ changed in
     rw whole
-    (IsGroup-inverse group c.self.invariant.0, index-inverse group inside.places c.self.invariant.0 c.self.invariant.1)
+    (IsGroup-inverse group c.self.invariant.0, index-inverse group inside.indices c.self.invariant.0 c.self.invariant.1)
 
 pub returns-clause-inverse : goal.returns-clause-inverse
 returns-clause-inverse c =

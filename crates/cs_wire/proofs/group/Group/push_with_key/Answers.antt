@@ -15,5 +15,5 @@ invariant_of-self-in-Ok c =
     let fresh = rw (← c.self.view_is) at c.requires.fresh in
     rw c.in_ok-push.ensures.items (
       IsGroup-push (record { header = inside.header; entries = inside.entries.items }) c.args.entry c.self.invariant.0 fits (rw key at fresh),
-      IsIndex-grown (λ (e : Entry). key_of inside.header.flags e.change) inside.places c.insert.new.self inside.entries.items c.args.entry c.args.key c.len-place.result c.self.invariant.1 (sym key) (omega arith) (c.in-Ok.ensures.ok ∙ ap (λ (k : List ℕ). insert inside.places k c.len-place.result) c.into_bytes.ensures),
+      IsIndex-grown (λ (e : Entry). key_of inside.header.flags e.change) inside.indices c.insert.new.self inside.entries.items c.args.entry c.args.key c.len-index.result c.self.invariant.1 (sym key) (omega arith) (c.in-Ok.ensures.ok ∙ ap (λ (k : List ℕ). insert inside.indices k c.len-index.result) c.into_bytes.ensures),
     )
