@@ -108,6 +108,8 @@ pub fn put_record<S: Alter>(
     ensures goes_on { HasCleanDisk (state S.Store conn.new) → HoldsRecords (state S.Store conn.old).now
         → IsTrue (state S.Store conn.old).in_transaction
         → OnOk result (GoesOn (state S.Store conn.old) (state S.Store conn.new)) }
+    ensures marks { HasCleanDisk (state S.Store conn.new) → HoldsRecords (state S.Store conn.old).now
+        → OnOk result ((state S.Store conn.new).marks ≡ (state S.Store conn.old).marks) }
     ensures rests { HasCleanDisk (state S.Store conn.new)
         → OnErr result (Rests (state S.Store conn.old) (state S.Store conn.new)) }
     ensures failed { HasCleanDisk (state S.Store conn.new) → IfErr result
@@ -134,6 +136,8 @@ pub fn remove_record<S: Alter>(
     ensures goes_on { HasCleanDisk (state S.Store conn.new) → HoldsRecords (state S.Store conn.old).now
         → IsTrue (state S.Store conn.old).in_transaction
         → OnOk result (GoesOn (state S.Store conn.old) (state S.Store conn.new)) }
+    ensures marks { HasCleanDisk (state S.Store conn.new) → HoldsRecords (state S.Store conn.old).now
+        → OnOk result ((state S.Store conn.new).marks ≡ (state S.Store conn.old).marks) }
     ensures rests { HasCleanDisk (state S.Store conn.new)
         → OnErr result (Rests (state S.Store conn.old) (state S.Store conn.new)) }
     ensures failed { HasCleanDisk (state S.Store conn.new) → IfErr result

@@ -1,8 +1,10 @@
-//! The transactions of a connection, by the texts that begin and end them.
-ghost use Rattle.std.specs.Prelude.{◌≡◌, ◌⊎◌, true, false, IsTrue, IfErr, OnOk, OnErr};
-ghost use Rattle.sqlite.specs.State.{HasCleanDisk, Shows, Survives};
+//! The transactions of a connection, by the texts that begin and end them, and the marks to which they go back.
+ghost use Rattle.std.specs.Prelude.{◌≡◌, ◌⊎◌, true, false, List, IsTrue, IfErr, OnOk, OnErr};
+ghost use Rattle.sqlite.specs.Effect.{Database};
+ghost use Rattle.sqlite.specs.State.{HasCleanDisk, Savepoint, Shows, Survives};
 ghost use Rattle.sqlite.specs.Held.{state};
 ghost use Rattle.cs_store_records.specs.Failing.{HasDiskFailed, IsFailure, IsMisplaced};
+ghost use Rattle.cs_store_records.specs.Marks.{HasMark, IsMarked};
 ghost use Rattle.cs_store_records.specs.Records.{IsUndone, KeepsContent, KeepsCrash};
 
 use crate::fault::RecordsError;
@@ -59,5 +61,68 @@ pub fn roll_back<S: Alter>(conn: &mut Connection<S>)
 {
     if !conn.is_autocommit() {
         let _ = conn.execute("ROLLBACK", &[]);
+    }
+}
+
+/// Marks where the open transaction is. It is refused if none is open. If it fails, the transaction is rolled back.
+pub fn mark<S: Alter>(conn: &mut Connection<S>) -> Result<(), RecordsError>
+    ensures marked { HasCleanDisk (state S.Store conn.new)
+        → OnOk result (IsTrue (state S.Store conn.old).in_transaction
+        × Shows (state S.Store conn.old) (state S.Store conn.new)
+        (state S.Store conn.old).now (state S.Store conn.old).committed true
+        × IsMarked (state S.Store conn.old).marks (state S.Store conn.old).now (state S.Store conn.new)) }
+    ensures undone { HasCleanDisk (state S.Store conn.new)
+        → OnErr result (IsUndone (state S.Store conn.old) (state S.Store conn.new)) }
+    ensures failed { HasCleanDisk (state S.Store conn.new)
+        → IfErr result (IsFailure (λ error. IsMisplaced ((state S.Store conn.old).in_transaction ≡ false) error
+        ⊎ HasDiskFailed (state S.Store conn.old) (state S.Store conn.new) error)) }
+    ensures survives { KeepsCrash (state S.Store conn.old) (state S.Store conn.new) }
+{
+    if conn.is_autocommit() {
+        return Err(RecordsError::Database(Error::SqliteFailure(ErrorCode::TransactionState)));
+    }
+    conn.execute("SAVEPOINT call", &[])?;
+    Ok(())
+}
+
+/// Drops the newest mark. What was written since stays. If it fails, the transaction is rolled back.
+pub fn release<S: Alter>(conn: &mut Connection<S>) -> Result<(), RecordsError>
+    ensures released { (before : List Savepoint) (db : Database) → IsMarked before db (state S.Store conn.old)
+        → HasCleanDisk (state S.Store conn.new)
+        → OnOk result (Shows (state S.Store conn.old) (state S.Store conn.new)
+        (state S.Store conn.old).now (state S.Store conn.old).committed true
+        × ((state S.Store conn.new).marks ≡ before)) }
+    ensures undone { HasMark (state S.Store conn.old) → HasCleanDisk (state S.Store conn.new)
+        → OnErr result (IsUndone (state S.Store conn.old) (state S.Store conn.new)) }
+    ensures failed { HasMark (state S.Store conn.old) → HasCleanDisk (state S.Store conn.new)
+        → IfErr result (IsFailure (HasDiskFailed (state S.Store conn.old) (state S.Store conn.new))) }
+    ensures survives { (HasCleanDisk (state S.Store conn.old) → HasMark (state S.Store conn.old))
+        → KeepsCrash (state S.Store conn.old) (state S.Store conn.new) }
+{
+    conn.execute("RELEASE call", &[])?;
+    Ok(())
+}
+
+/// Takes the open transaction back to its newest mark, and drops the mark. If that fails, the transaction is rolled
+/// back. It does nothing where none is open.
+pub fn go_back<S: Alter>(conn: &mut Connection<S>)
+    ensures back { (before : List Savepoint) (db : Database)
+        → (IsTrue (state S.Store conn.old).in_transaction → IsMarked before db (state S.Store conn.old))
+        → HasCleanDisk (state S.Store conn.new) → IsTrue (state S.Store conn.new).in_transaction
+        → IsTrue (state S.Store conn.old).in_transaction
+        × Shows (state S.Store conn.old) (state S.Store conn.new) db (state S.Store conn.old).committed true
+        × ((state S.Store conn.new).marks ≡ before) }
+    ensures undone { (IsTrue (state S.Store conn.old).in_transaction → HasMark (state S.Store conn.old))
+        → HasCleanDisk (state S.Store conn.new) → (state S.Store conn.new).in_transaction ≡ false
+        → IsUndone (state S.Store conn.old) (state S.Store conn.new) }
+    ensures survives { (HasCleanDisk (state S.Store conn.old) → IsTrue (state S.Store conn.old).in_transaction
+        → HasMark (state S.Store conn.old))
+        → KeepsCrash (state S.Store conn.old) (state S.Store conn.new) }
+{
+    if conn.is_autocommit() {
+        return;
+    }
+    if conn.execute("ROLLBACK TO call", &[]).is_ok() {
+        let _ = conn.execute("RELEASE call", &[]);
     }
 }

@@ -57,6 +57,13 @@ BeginFails old new = IsCauseOf (λ error. IsMisplaced (IsTrue old.in_transaction
 abbrev pub CommitFails : State → State → Cause → Type 0
 CommitFails old new = IsCauseOf (λ error. IsMisplaced (old.in_transaction ≡ false) error ⊎ HasDiskFailed old new error)
 
+-- A transaction is not marked, where none is open or the disk failed, and a mark is not dropped, where the disk failed.
+abbrev pub MarkFails : State → State → Cause → Type 0
+MarkFails old new = IsCauseOf (λ error. IsMisplaced (old.in_transaction ≡ false) error ⊎ HasDiskFailed old new error)
+
+abbrev pub ReleaseFails : State → State → Cause → Type 0
+ReleaseFails old new = IsCauseOf (HasDiskFailed old new)
+
 -- ---- calls that make several statements
 
 -- The statement writes the record of such a write to rows.

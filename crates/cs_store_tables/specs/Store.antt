@@ -81,13 +81,16 @@ abbrev pub without_free_key : Option KnownData → Option KnownData
 without_free_key known = option_map (λ t. (t.0, t.1, None)) known
 
 -- what a call that commits nothing keeps: what a crash leaves, what was committed last, and that this is a store;
--- outside a transaction, where what is shown was committed, all that is shown
+-- outside a transaction, where what is shown was committed, all that is shown; it begins no transaction, and keeps the
+-- marks of one that is still open
 pub record KeepsStore (old new : State) : Type 0 where
   pub crash : KeepsCrash old new
   pub commit : HasCleanDisk new → KeepsCommit old new
   pub sound : IsSound old → IsSound new
   pub outside : HasCleanDisk new → old.in_transaction ≡ false → (IsTrue old.is_open → old.now ≡ old.committed)
       → KeepsContent old new
+  pub inside : HasCleanDisk new → IsTrue new.in_transaction → IsTrue old.in_transaction
+  pub marks : HasCleanDisk new → IsTrue new.in_transaction → IsTrue old.in_transaction → new.marks ≡ old.marks
 
 -- a reader of what is stored gives it back, or is refused memory
 abbrev pub Recovers : {X : Type 0} → Result X StoreError → X → Type 0

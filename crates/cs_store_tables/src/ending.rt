@@ -1,10 +1,12 @@
-//! The end of a transaction.
-ghost use Rattle.std.specs.Prelude.{◌≡◌, IsTrue, IfErr, OnOk, OnErr, false};
-ghost use Rattle.sqlite.specs.State.{HasCleanDisk, Shows, Survives};
+//! The end of a transaction, and its marks.
+ghost use Rattle.std.specs.Prelude.{◌≡◌, List, IsTrue, IfErr, OnOk, OnErr, true, false};
+ghost use Rattle.sqlite.specs.Effect.{Database};
+ghost use Rattle.sqlite.specs.State.{HasCleanDisk, Savepoint, Shows, Survives};
 ghost use Rattle.sqlite.specs.Held.{state};
 ghost use Rattle.cs_rows.specs.Faults.{IsCaused, IsResource};
-ghost use Rattle.cs_store_tables.specs.Failing.{CommitFails};
-ghost use Rattle.cs_store_records.specs.Records.{IsUndone};
+ghost use Rattle.cs_store_tables.specs.Failing.{CommitFails, MarkFails, ReleaseFails};
+ghost use Rattle.cs_store_records.specs.Marks.{HasMark, IsMarked};
+ghost use Rattle.cs_store_records.specs.Records.{IsUndone, KeepsCrash};
 
 use crate::refusal::refused;
 use cs_rows::StoreError;
@@ -26,6 +28,48 @@ pub fn commit<S: Alter>(conn: &mut Connection<S>) -> Result<(), StoreError>
         (λ db. (db ≡ (state S.Store conn.old).now.trees) × IsTrue (state S.Store conn.old).in_transaction) }
 {
     match transactions::commit(conn) {
+        Ok(()) => Ok(()),
+        Err(error) => Err(refused(error)),
+    }
+}
+
+/// Marks where the open transaction of a connection is. It is refused if none is open. If it fails, the transaction is
+/// rolled back.
+pub fn mark<S: Alter>(conn: &mut Connection<S>) -> Result<(), StoreError>
+    ensures marked { HasCleanDisk (state S.Store conn.new)
+        → OnOk result (IsTrue (state S.Store conn.old).in_transaction
+        × Shows (state S.Store conn.old) (state S.Store conn.new)
+        (state S.Store conn.old).now (state S.Store conn.old).committed true
+        × IsMarked (state S.Store conn.old).marks (state S.Store conn.old).now (state S.Store conn.new)) }
+    ensures refused { IfErr result IsResource }
+    ensures caused { HasCleanDisk (state S.Store conn.new)
+        → IfErr result (IsCaused (MarkFails (state S.Store conn.old) (state S.Store conn.new))) }
+    ensures undone { HasCleanDisk (state S.Store conn.new)
+        → OnErr result (IsUndone (state S.Store conn.old) (state S.Store conn.new)) }
+    ensures survives { KeepsCrash (state S.Store conn.old) (state S.Store conn.new) }
+{
+    match transactions::mark(conn) {
+        Ok(()) => Ok(()),
+        Err(error) => Err(refused(error)),
+    }
+}
+
+/// Drops the newest mark of a connection. What was written since stays. If it fails, the transaction is rolled back.
+pub fn release<S: Alter>(conn: &mut Connection<S>) -> Result<(), StoreError>
+    ensures released { (before : List Savepoint) (db : Database) → IsMarked before db (state S.Store conn.old)
+        → HasCleanDisk (state S.Store conn.new)
+        → OnOk result (Shows (state S.Store conn.old) (state S.Store conn.new)
+        (state S.Store conn.old).now (state S.Store conn.old).committed true
+        × ((state S.Store conn.new).marks ≡ before)) }
+    ensures refused { IfErr result IsResource }
+    ensures caused { HasMark (state S.Store conn.old) → HasCleanDisk (state S.Store conn.new)
+        → IfErr result (IsCaused (ReleaseFails (state S.Store conn.old) (state S.Store conn.new))) }
+    ensures undone { HasMark (state S.Store conn.old) → HasCleanDisk (state S.Store conn.new)
+        → OnErr result (IsUndone (state S.Store conn.old) (state S.Store conn.new)) }
+    ensures survives { (HasCleanDisk (state S.Store conn.old) → HasMark (state S.Store conn.old))
+        → KeepsCrash (state S.Store conn.old) (state S.Store conn.new) }
+{
+    match transactions::release(conn) {
         Ok(()) => Ok(()),
         Err(error) => Err(refused(error)),
     }

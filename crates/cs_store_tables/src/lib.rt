@@ -8,7 +8,7 @@
 //! ```
 //!
 //! `known` has the calls on tables and rows, which read the schema of a table once, and `tables` what they do with
-//! records. `ending` ends a transaction. `refusal` turns a refusal of the database into one of a store.
+//! records. `ending` ends a transaction, and marks it. `refusal` turns a refusal of the database into one of a store.
 #![tactic(auto)]
 
 mod ending;
@@ -16,7 +16,8 @@ mod known;
 mod refusal;
 mod tables;
 
-pub use ending::commit;
+pub use cs_store_records::transactions::go_back;
+pub use ending::{commit, mark, release};
 pub use known::{KnownTable, add_table, find_row, find_schema, list_rows, put_row, remove_row};
 pub use refusal::refused;
 pub use tables::list_tables;
