@@ -10,7 +10,7 @@ use Rattle.sqlite_schema.specs.declared.schema.Keys.{Keys}
 use Rattle.sqlite_schema.specs.declared.schema.Reference.{Reference}
 use Rattle.sqlite_schema.specs.declared.schema.Table.{Table}
 use Rattle.sqlite_schema.specs.Names.{same_name}
-use Rattle.sqlite_schema.specs.Rules.{ParentKey, key_in, key_marks, declared_order}
+use Rattle.sqlite_schema.specs.Rules.{ParentKey, key_in, key_places, declared_order}
 use Rattle.sqlite_rules.specs.declared.action.Deed.{Deed}
 use Rattle.sqlite_rules.specs.Edit.{Edit, taken_by, Applies}
 use Rattle.sqlite_rules.specs.Action.{works, work_for, work_by, Writes as WritesEdit}
@@ -206,9 +206,9 @@ name_apart a b c same other =
 
 -- a key that refers to a table with another tree sets off nothing here
 key_elsewhere : (tree : ℕ) (names : List (List ℕ)) (found : Option Table) → IfSome found (λ t. t.tree ≢ tree)
-    → IfSome (option_and_then (λ t. option_and_then (key_in t) (key_marks t names)) found) (λ key. (key.0 == tree) ≡ false)
+    → IfSome (option_and_then (λ t. option_and_then (key_in t) (key_places t names)) found) (λ key. (key.0 == tree) ≡ false)
 key_elsewhere tree names None h = tt
-key_elsewhere tree names (Some t) h = at (key_marks t names)
+key_elsewhere tree names (Some t) h = at (key_places t names)
   where
     in_order : (places : List ℕ) (order : Option Order) → IfSome {T = ParentKey} (option_map (λ o. (t.tree, places, o)) order) (λ key. (key.0 == tree) ≡ false)
     in_order places None = tt
