@@ -7,6 +7,7 @@ mod ExpectedLemmas
 pub mod Examples
 pub mod FoundRows
 pub mod ListedRows
+pub mod MarkLemmas
 pub mod OrderLemmas
 mod PlaceLemmas
 pub mod PutLemmas

@@ -1,5 +1,5 @@
 -- What the texts that put a record do.
-use Rattle.std.proofs.Common.{◌≢◌, ℕ, List, Bool, true, false, None, Ok, IsTrue, refl}
+use Rattle.std.proofs.Common.{◌≡◌, ◌≢◌, ℕ, List, Bool, true, false, None, Ok, IsTrue, refl}
 use Rattle.sqlite_value.specs.Order.{Row}
 use Rattle.sqlite_schema.specs.declared.schema.Schema.{Schema}
 use Rattle.sqlite_schema.specs.declared.command.Command.TheVariants.{Commit, Release}
@@ -30,6 +30,10 @@ module _ (is_new : Bool) (old new : State) (params : Row) (count : ℕ) (declare
   -- the transaction goes on
   pub put_goes_on : IsTrue old.in_transaction → Executes (put_text is_new) params old new (Ok count) → GoesOn old new
   put_goes_on inside h = write_goes_on old new _ _ _ _ count inside (put_writes h)
+
+  -- with its marks
+  pub put_keeps_marks : Executes (put_text is_new) params old new (Ok count) → new.marks ≡ old.marks
+  put_keeps_marks h = (put_writes h).marks
 
 -- inside a transaction it commits nothing
 no_commit : (index tree : ℕ) (is_new : Bool) → put_command index tree is_new ≢ Commit

@@ -41,6 +41,10 @@ module _ (old new : State) (params : Row) (count : ℕ) (declares : DeclaresReco
   pub remove_goes_on : IsTrue old.in_transaction → Executes remove_text params old new (Ok count) → GoesOn old new
   remove_goes_on inside h = write_goes_on old new _ _ _ _ count inside (remove_writes h)
 
+  -- with its marks
+  pub remove_keeps_marks : Executes remove_text params old new (Ok count) → new.marks ≡ old.marks
+  remove_keeps_marks h = (remove_writes h).marks
+
 -- inside a transaction it commits nothing
 pub remove_keeps_crash : (params : Row) (old new : State) → (HasCleanDisk old → DeclaresRecords old.now.schema) → (HasCleanDisk old → IsTrue old.in_transaction)
     → Survives old new (CommitsBy remove_text params old) → KeepsCrash old new

@@ -1,7 +1,7 @@
--- `records::put_record`: the clauses `rests`, `survives`, `set`, `ends` and `goes_on`.
+-- `records::put_record`: the clauses `rests`, `survives`, `set`, `ends`, `goes_on` and `marks`.
 use Rattle.cs_store_records.proofs.QueryLemmas.{on_err}
 use Rattle.cs_store_records.proofs.StatementLemmas.{refusal_rests}
-use Rattle.cs_store_records.proofs.PutLemmas.{put_goes_on, put_keeps_crash}
+use Rattle.cs_store_records.proofs.PutLemmas.{put_goes_on, put_keeps_crash, put_keeps_marks}
 use Rattle.cs_store_records.specs.Failing.{puts}
 use Rattle.cs_store_records.proofs.AddLemmas as add
 use Rattle.cs_store_records.proofs.WriteFailures.{write_ends}
@@ -19,6 +19,9 @@ returns-clause-set g c clean has =
 
 pub returns-clause-goes_on : goal.returns-clause-goes_on
 returns-clause-goes_on g c clean has inside = put_goes_on c.args.is_new _ _ _ _ has.declares inside (rw c.put_text.ensures at (c.in_ok-execute.ensures.runs clean))
+
+pub returns-clause-marks : goal.returns-clause-marks
+returns-clause-marks g c clean has = put_keeps_marks c.args.is_new _ _ _ _ has.declares (rw c.put_text.ensures at (c.in_ok-execute.ensures.runs clean))
 
 pub returns-clause-survives : goal.returns-clause-survives
 returns-clause-survives g c has inside = put_keeps_crash c.args.is_new _ _ _ (λ clean. (has clean).declares) inside (rw c.put_text.ensures at c.execute.ensures.survives)

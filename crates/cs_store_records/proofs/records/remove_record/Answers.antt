@@ -1,10 +1,10 @@
--- `records::remove_record`: the clauses `rests`, `failed`, `survives`, `removed`, `ends` and `goes_on`.
+-- `records::remove_record`: the clauses `rests`, `failed`, `survives`, `removed`, `ends`, `goes_on` and `marks`.
 use Rattle.cs_store_records.proofs.FailureLemmas.{failure}
 use Rattle.cs_store_records.proofs.QueryLemmas.{on_err}
 use Rattle.cs_store_records.proofs.StatementLemmas.{refusal_rests}
 use Rattle.cs_store_records.specs.Failing.{removes}
 use Rattle.cs_store_records.proofs.RemoveLemmas as remove
-use Rattle.cs_store_records.proofs.RemoveLemmas.{remove_goes_on, remove_keeps_crash}
+use Rattle.cs_store_records.proofs.RemoveLemmas.{remove_goes_on, remove_keeps_crash, remove_keeps_marks}
 use Rattle.cs_store_records.proofs.WriteFailures.{write_ends}
 use Rattle.cs_store_records.proofs.records.remove_record.Goals as goal
 
@@ -24,6 +24,9 @@ returns-clause-removed g c clean has = remove.removes _ _ _ _ _ has (rw (c.param
 
 pub returns-clause-goes_on : goal.returns-clause-goes_on
 returns-clause-goes_on g c clean has inside = remove_goes_on _ _ _ _ has.declares inside (c.in_ok-execute.ensures.runs clean)
+
+pub returns-clause-marks : goal.returns-clause-marks
+returns-clause-marks g c clean has = remove_keeps_marks _ _ _ _ has.declares (c.in_ok-execute.ensures.runs clean)
 
 pub returns-clause-survives : goal.returns-clause-survives
 returns-clause-survives g c has inside = remove_keeps_crash _ _ _ (λ clean. (has clean).declares) inside c.execute.ensures.survives
