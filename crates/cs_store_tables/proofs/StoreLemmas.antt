@@ -1,5 +1,7 @@
 -- Stores stay stores, whatever a call answers.
-use Rattle.std.proofs.Common.{◌≡◌, false, IsTrue, Result, Ok, Err, OnOk, OnErr, inl, inr, sym, subst, subst₂, ◌∙◌, true≢false}
+use Rattle.std.proofs.Common.{◌≡◌, true, false, IsTrue, Result, Ok, Err, OnOk, OnErr, inl, inr, sym, subst, subst₂, ◌∙◌, true≢false}
+use Rattle.std.proofs.lemmas.Bool.{cases_Bool}
+use Rattle.sqlite.specs.Effect.{Database}
 use Rattle.sqlite.specs.State.{State, HasCleanDisk, KeepsCommit, Shows, IsUnchanged, IsRolledBack}
 use Rattle.cs_store_records.specs.Records.{Rests, GoesOn, IsUndone, KeepsContent, KeepsCrash, KeepsOthers}
 use Rattle.cs_store_tables.specs.Store.{HoldsState, IsStore, IsSound, Adopts, Begins, KeepsStore}
@@ -97,14 +99,21 @@ content_store old new kept was = record {
   others = λ k. others_same old new (kept.now k) (kept.committed k) (was.others (kept.was_open k));
 }
 
--- a call that keeps the content keeps the store
-pub content_keeps : (old new : State) → KeepsCrash old new → (HasCleanDisk new → KeepsContent old new) → KeepsStore old new
-content_keeps old new crash keeps = record {
+-- a call that keeps the content and the marks keeps the store
+pub content_keeps : (old new : State) → KeepsCrash old new → (HasCleanDisk new → KeepsContent old new) → (HasCleanDisk new → IsTrue new.in_transaction → new.marks ≡ old.marks) → KeepsStore old new
+content_keeps old new crash keeps marks = record {
   crash = crash;
   commit = λ clean. let kept = keeps clean in record { was_open = kept.was_open; committed = kept.committed };
   sound = λ sound clean. content_store old new (keeps clean) (sound (was_clean old new crash clean));
   outside = λ clean out settled. keeps clean;
+  inside = λ clean k. subst IsTrue (keeps clean).mode k;
+  marks = λ clean k was. marks clean k;
 }
+
+-- after a call that rests, an open transaction is the one that was open, with its marks
+rests_inside : (old new : State) → Rests old new → IsTrue new.in_transaction → IsTrue old.in_transaction × (new.marks ≡ old.marks)
+rests_inside old new (inl same) k = (subst IsTrue same.0.mode k, same.2)
+rests_inside old new (inr undone) k = absurd (true≢false (sym k ∙ undone.autocommit))
 
 -- a call that rests keeps the store
 pub rests_keeps : (old new : State) → KeepsCrash old new → (HasCleanDisk new → Rests old new) → KeepsStore old new
@@ -113,16 +122,51 @@ rests_keeps old new crash rests = record {
   commit = λ clean. rests_commit old new (rests clean);
   sound = λ sound clean. rests_store old new (rests clean) (sound (was_clean old new crash clean));
   outside = λ clean out settled. rests_keeps_content old new (rests clean) out settled;
+  inside = λ clean k. (rests_inside old new (rests clean) k).0;
+  marks = λ clean k was. (rests_inside old new (rests clean) k).1;
 }
 
 -- and so does a write that leaves a state
-pub write_keeps : (old new : State) → IsTrue old.in_transaction → KeepsCrash old new → (HasCleanDisk new → GoesOn old new × HoldsState new.now × KeepsOthers old.now new.now) → KeepsStore old new
+pub write_keeps : (old new : State) → IsTrue old.in_transaction → KeepsCrash old new
+    → (HasCleanDisk new → GoesOn old new × HoldsState new.now × KeepsOthers old.now new.now × (new.marks ≡ old.marks)) → KeepsStore old new
 write_keeps old new inside crash wrote = record {
   crash = crash;
   commit = λ clean. let on = (wrote clean).0 in record { was_open = λ k. on.was_open; committed = λ k. on.committed_is };
   sound = λ sound clean. let w = wrote clean in goes_on_store old new w.0 w.1 w.2 (sound (was_clean old new crash clean));
   outside = λ clean out settled. absurd (true≢false (sym inside ∙ out));
+  inside = λ clean k. inside;
+  marks = λ clean k was. (wrote clean).3;
 }
+
+-- a transaction that goes on with this content
+back_store : (old new : State) (db : Database) → Shows old new db old.committed true → HoldsState db → KeepsOthers old.committed db → IsStore old → IsStore new
+back_store old new db shown holds others was = record {
+  open_inside = λ k. shown.is_open;
+  settled = λ out k. absurd (true≢false (sym shown.mode ∙ out));
+  now = λ k. subst HoldsState (sym shown.now_is) holds;
+  committed = λ k. subst HoldsState (sym shown.committed_is) (was.committed shown.was_open);
+  others = λ k. subst₂ KeepsOthers (sym shown.committed_is) (sym shown.now_is) others;
+}
+
+-- so a store that is marked, or whose mark is dropped, stays one, whatever the call answers
+pub marked_sound : {X E : Type 0} (result : Result X E) (old new : State) → KeepsCrash old new → (HasCleanDisk new → OnOk result (Shows old new old.now old.committed true)) → (HasCleanDisk new → OnErr result (IsUndone old new))
+    → IsSound old → IsSound new
+marked_sound (Ok x) old new crash shown undone sound clean =
+    let was = sound (was_clean old new crash clean) in
+    let is = shown clean in
+    back_store old new old.now is (was.now is.was_open) (was.others is.was_open) was
+marked_sound (Err e) old new crash shown undone sound clean = dropped_store old new (undone clean) (sound (was_clean old new crash clean))
+
+-- and so does one that goes back to a mark
+pub back_sound : (old new : State) (db : Database) → KeepsCrash old new → (HasCleanDisk new → IsTrue new.in_transaction → Shows old new db old.committed true)
+    → (HasCleanDisk new → new.in_transaction ≡ false → IsUndone old new) → (HasCleanDisk old → IsTrue old.is_open → HoldsState db × KeepsOthers old.committed db) → IsSound old → IsSound new
+back_sound old new db crash back undone holds sound clean =
+    let clean_before = was_clean old new crash clean in
+    let was = sound clean_before in
+    elim (cases_Bool new.in_transaction) [
+      | inl inside ↦ let is = back clean inside in let it = holds clean_before is.was_open in back_store old new db is it.0 it.1 was
+      | inr ended ↦ dropped_store old new (undone clean ended) was
+    ]
 
 -- a transaction that is undone leaves the content as it was
 pub undone_content : (old begun mid new : State) → Begins old begun → KeepsCommit begun mid → IsUndone mid new → KeepsContent old new

@@ -71,7 +71,8 @@ table_put old new name schema holds named is free set =
     holds_next new _ set.holds (stores_table (records_in new) (records_in old) (tables_in old) name schema holds.stores named is (no_table (tables_in old) name free) set.change)
 
 -- a write that succeeds leaves a state, and else the database rests
-write_kept : {X E : Type 0} (result : Result X E) (old new : State) → IsTrue old.in_transaction → KeepsCrash old new → (HasCleanDisk new → OnOk result (GoesOn old new × HoldsState new.now × KeepsOthers old.now new.now))
+write_kept : {X E : Type 0} (result : Result X E) (old new : State) → IsTrue old.in_transaction → KeepsCrash old new
+    → (HasCleanDisk new → OnOk result (GoesOn old new × HoldsState new.now × KeepsOthers old.now new.now × (new.marks ≡ old.marks)))
     → (HasCleanDisk new → OnErr result (Rests old new)) → KeepsStore old new
 write_kept (Ok x) old new inside crash wrote rests = write_keeps old new inside crash wrote
 write_kept (Err e) old new inside crash wrote rests = rests_keeps old new crash rests
@@ -90,10 +91,13 @@ module _ (old new : State) {X E : Type 0} (result : Result X E) (name key : List
   pub written_is : HasCleanDisk new → OnOk result (tables_in new.now ≡ next)
   written_is clean = on_ok_then result _ _ (λ set. (means (was_clean old new crash clean) (shown clean) set).1) (sets clean (shown clean).records)
 
-  pub written_keeps : (HasCleanDisk new → HoldsRecords old.now → IsTrue old.in_transaction → OnOk result (GoesOn old new)) → (HasCleanDisk new → OnErr result (Rests old new)) → KeepsStore old new
-  written_keeps goes_on rests =
-      write_kept result old new inside crash
-      (λ clean. on_ok_both result _ _ _ (λ set on. (on, (means (was_clean old new crash clean) (shown clean) set).0, set.others)) (sets clean (shown clean).records) (goes_on clean (shown clean).records inside)) rests
+  pub written_keeps : (HasCleanDisk new → HoldsRecords old.now → IsTrue old.in_transaction → OnOk result (GoesOn old new)) → (HasCleanDisk new → HoldsRecords old.now → OnOk result (new.marks ≡ old.marks))
+      → (HasCleanDisk new → OnErr result (Rests old new)) → KeepsStore old new
+  written_keeps goes_on marks rests =
+      write_kept result old new inside crash (λ clean.
+      let records = (shown clean).records in
+      on_ok_both result _ _ _ (λ (w : GoesOn old new × HoldsState new.now × KeepsOthers old.now new.now) same. (w.0, w.1, w.2, same))
+      (on_ok_both result _ _ _ (λ set on. (on, (means (was_clean old new crash clean) (shown clean) set).0, set.others)) (sets clean records) (goes_on clean records inside)) (marks clean records)) rests
 
 -- the trees of a database that holds a state are a store's
 pub may_leave : (s : State) (Holds : tables.State → Type 0) (trees : Trees) → HoldsState s.now → Holds (tables_in s.now) → trees ≡ s.now.trees → MayLeave Holds trees

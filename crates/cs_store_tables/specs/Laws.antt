@@ -1,5 +1,5 @@
 -- What calls on a store keep, one after another.
-use Rattle.std.proofs.Common.{◌≡◌, ◌≤◌, inl, inr, true≢false, refl, sym, subst, IsTrue, Option, IsSome, ℕ, ◌∙◌, arith}
+use Rattle.std.proofs.Common.{◌≡◌, ◌≤◌, inl, inr, true≢false, refl, sym, subst, IsTrue, Option, IsSome, ℕ, List, ◌∙◌, arith}
 use Rattle.std.proofs.lemmas.Bool.{cases_Bool}
 use Rattle.sqlite_trees.specs.declared.error.StoreError as disk
 use Rattle.sqlite_trees.specs.declared.error.StoreError.TheVariants as cause
@@ -7,10 +7,11 @@ use Rattle.sqlite.specs.declared.error.Error.{Error}
 use Rattle.sqlite.specs.Effect.{Database}
 use Rattle.cs_rows.specs.declared.fault.Cause.{Cause}
 use Rattle.sqlite_trees.specs.Tree.{Trees}
-use Rattle.sqlite.specs.State.{State, HasCleanDisk, Survives}
+use Rattle.sqlite.specs.State.{State, Savepoint, HasCleanDisk, Survives}
 use Rattle.sqlite.proofs.StateLemmas.{survives_then}
 use Rattle.cs_value.specs.State as tables
 use Rattle.cs_store_records.specs.Failing.{Statement, LeadsTo, itself, by_each, CannotRead, HasDiskFailed, IsHindered, Refuses}
+use Rattle.cs_store_records.specs.Marks.{IsMarked}
 use Rattle.cs_store_records.specs.Records.{KeepsContent, KeepsCrash}
 use Rattle.cs_store_records.proofs.ContentLemmas.{crash_itself}
 use Rattle.cs_store_tables.specs.Crash.{LeavesOnly}
@@ -48,6 +49,8 @@ keeps_itself {s} = record {
   commit = λ clean. record { was_open = λ k. k; committed = λ k. refl };
   sound = λ k. k;
   outside = λ clean out settled. content_itself;
+  inside = λ clean k. k;
+  marks = λ clean k was. refl;
 }
 
 -- one call after another
@@ -67,7 +70,15 @@ keeps_then {a} {b} {c} one two = record {
       let still : IsTrue b.is_open → b.now ≡ b.committed =
       λ k. first.now k ∙ settled (first.was_open k) ∙ sym (first.committed k) in
       content_then first (two.outside clean (first.mode ∙ out) still);
+  inside = λ clean k. one.inside (was_clean b c two.crash clean) (two.inside clean k);
+  marks = λ clean k was.
+      let between = two.inside clean k in
+      two.marks clean k between ∙ one.marks (was_clean b c two.crash clean) between was;
 }
+
+-- the newest mark is still it, if the transaction is still open
+pub mark_stays : {a b : State} (before : List Savepoint) (db : Database) → KeepsStore a b → HasCleanDisk b → IsTrue b.in_transaction → IsMarked before db a → IsMarked before db b
+mark_stays before db keeps clean inside marked = keeps.marks clean inside (keeps.inside clean inside) ∙ marked
 
 -- and what a crash leaves only is left only
 pub leaves_then : {a b : State} {Holds : tables.State → Type 0} → KeepsStore a b → LeavesOnly Holds a → LeavesOnly Holds b

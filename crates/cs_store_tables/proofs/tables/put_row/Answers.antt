@@ -24,7 +24,7 @@ returns-clause-kept g c sound inside =
     let h = c.put_record.ensures in
     let spelled : c.deref.result.now ≡ row_bytes c.args.row.now = search rules in
     written_keeps old new c.put_record.result c.args.name.now c.bytes.result.now (Some c.deref.result.now) _ sound inside
-    (λ clean holds set. row_put old.now new.now c.args.name.now c.args.key.now c.args.row.now holds (c.requires.fits clean) (rw (c.bytes.ensures, spelled) at set)) h.survives h.set h.goes_on h.rests
+    (λ clean holds set. row_put old.now new.now c.args.name.now c.args.key.now c.args.row.now holds (c.requires.fits clean) (rw (c.bytes.ensures, spelled) at set)) h.survives h.set h.goes_on h.marks h.rests
 
 pub put_record-requires : goal.put_record-requires
 put_record-requires g c = λ new clean records.

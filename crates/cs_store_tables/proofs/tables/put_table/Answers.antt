@@ -24,7 +24,7 @@ returns-clause-kept g c sound inside =
     let h = c.put_record.ensures in
     let spelled : c.deref.result.now ≡ declaration_bytes c.args.schema.now = search rules in
     written_keeps old new c.put_record.result [] c.as_bytes.result.now (Some c.deref.result.now) _ sound inside
-    (λ before holds set. table_put old.now new.now c.args.name.now c.args.schema.now holds c.requires.named c.in_ok-bytes.ensures.well_formed (c.requires.free before) (rw (c.as_bytes.ensures.value, spelled) at set)) h.survives h.set h.goes_on h.rests
+    (λ before holds set. table_put old.now new.now c.args.name.now c.args.schema.now holds c.requires.named c.in_ok-bytes.ensures.well_formed (c.requires.free before) (rw (c.as_bytes.ensures.value, spelled) at set)) h.survives h.set h.goes_on h.marks h.rests
 
 pub returns-clause-caused : goal.returns-clause-caused
 returns-clause-caused g c sound inside clean =
