@@ -46,7 +46,7 @@ slice_get_last texts last =
 
 -- one more text has the next index, also where it is there
 pub IsIndex-push : (indices : ByBytes ℕ) (texts : List (List ℕ)) (last : List ℕ) → IsIndex indices texts → IsIndex (insert indices last (length texts)) (texts ++ last ∷ [])
-IsIndex-push indices texts last index = record {
+IsIndex-push indices texts last held = record {
   found = λ text index e. found_by text index (same text last) refl (sym (got text) ∙ e);
   absent = λ text e. absent_by text (same text last) refl (sym (got text) ∙ e);
 }
@@ -59,14 +59,14 @@ IsIndex-push indices texts last index = record {
     found_by text index true is e =
         let at : length texts ≡ index = same_Some (length texts) index e in
         subst (λ (p : ℕ). slice_get (texts ++ last ∷ []) p ≡ Some text) at (slice_get_last texts last ∙ ap Some (sym (same_is text last is)))
-    found_by text index false is e = slice_get_left texts last text index (index.found text index e)
+    found_by text index false is e = slice_get_left texts last text index (held.found text index e)
 
     absent_by : (text : List ℕ) (b : Bool) → same text last ≡ b → cond b (Some (length texts)) (get indices text) ≡ None → All (λ t. t ≢ text) (texts ++ last ∷ [])
     absent_by text true is e = absurd (none-some (length texts) (sym e))
-    absent_by text false is e = All-push (λ (t : List ℕ). t ≢ text) texts last (index.absent text e) (not_same text last is)
+    absent_by text false is e = All-push (λ (t : List ℕ). t ≢ text) texts last (held.absent text e) (not_same text last is)
 
 -- what is found among things that are known by a text
-module _ {X : Type 0} (text_of : X → List ℕ) (indices : ByBytes ℕ) (xs : List X) (text : List ℕ) (index : IsIndex indices (map text_of xs)) where
+module _ {X : Type 0} (text_of : X → List ℕ) (indices : ByBytes ℕ) (xs : List X) (text : List ℕ) (held : IsIndex indices (map text_of xs)) where
   at_place : (index : ℕ) → slice_get (map text_of xs) index ≡ Some text → IsIndexWhere (λ x. text_of x ≡ text) xs index
   at_place index e = record {
     within = omega (arith, slice_get_within (map text_of xs) index text e, length-map xs text_of);
@@ -81,21 +81,21 @@ module _ {X : Type 0} (text_of : X → List ℕ) (indices : ByBytes ℕ) (xs : L
 
   pub is_found : (found : Option ℕ) → found ≡ get indices text → IfSome found (IsIndexWhere (λ x. text_of x ≡ text) xs)
   is_found None e = tt
-  is_found (Some index) e = at_place index (index.found text index (sym e))
+  is_found (Some index) e = at_place index (held.found text index (sym e))
 
   -- nothing is found just where the text is new
   pub is_new : (found : Option ℕ) → found ≡ get indices text → IsTrue (is_none found) ↔ All (λ x. text_of x ≢ text) xs
   is_new None e =
-      let none = index.absent text (sym e) in
+      let none = held.absent text (sym e) in
       (λ h k d lt known. none k [] (omega (arith, length-map xs text_of)) (get_or-map text_of xs k d [] lt ∙ known), λ h. refl)
-  is_new (Some index) e = (λ h. absurd cc, λ h. absurd (is_known xs index (at_place index (index.found text index (sym e))) h))
+  is_new (Some index) e = (λ h. absurd cc, λ h. absurd (is_known xs index (at_place index (held.found text index (sym e))) h))
 
 -- one more thing has the next index
 pub IsIndex-grown : {X : Type 0} (text_of : X → List ℕ) (indices new : ByBytes ℕ) (xs : List X) (x : X) (text : List ℕ) (index : ℕ)
     → IsIndex indices (map text_of xs) → text_of x ≡ text → index ≡ length xs → new ≡ insert indices text index
     → IsIndex new (map text_of (xs ++ x ∷ []))
-IsIndex-grown text_of indices new xs x text index index is at grown =
-    let pushed = IsIndex-push indices (map text_of xs) text index in
+IsIndex-grown text_of indices new xs x text index held is at grown =
+    let pushed = IsIndex-push indices (map text_of xs) text held in
     let texts : map text_of (xs ++ x ∷ []) ≡ map text_of xs ++ text ∷ [] = map-append text_of xs (x ∷ []) ∙ ap (λ (t : List ℕ). map text_of xs ++ t ∷ []) is in
     let after : new ≡ insert indices text (length (map text_of xs)) = grown ∙ ap (insert indices text) (at ∙ sym (length-map xs text_of)) in
     rw (texts, after) pushed
@@ -103,9 +103,9 @@ IsIndex-grown text_of indices new xs x text index index is at grown =
 -- the first things of a list, and one more
 pub IsIndex-more : {X : Type 0} (text_of : X → List ℕ) (indices new : ByBytes ℕ) (xs : List X) (x : X) (i : ℕ)
     → i < length xs → x ≡ get_or xs i x → IsIndex indices (map text_of (take i xs)) → new ≡ insert indices (text_of x) i → IsIndex new (map text_of (take (i + 1) xs))
-IsIndex-more text_of indices new xs x i lt is index grown =
+IsIndex-more text_of indices new xs x i lt is held grown =
     let count : length (take i xs) ≡ i = length-take-le i xs (omega arith) in
-    rw (take_more xs i x lt, ← is) (IsIndex-grown text_of indices new (take i xs) x (text_of x) i index refl (sym count) grown)
+    rw (take_more xs i x lt, ← is) (IsIndex-grown text_of indices new (take i xs) x (text_of x) i held refl (sym count) grown)
 
 -- what is found is not new
 pub found_or_new : (found : Option ℕ) → is_some found ≡ true → IsTrue (is_none found) → ⊥
@@ -156,10 +156,10 @@ pub record IsIndexed (texts left : List (List ℕ)) (indices : ByBytes ℕ) (ind
   pub before : List (List ℕ)
   pub whole : texts ≡ before ++ left
   pub count : index ≡ length before
-  pub index : IsIndex indices before
+  pub held : IsIndex indices before
 
 pub IsIndexed-none : (texts left : List (List ℕ)) (indices : ByBytes ℕ) → left ≡ texts → indices ≡ empty → IsIndexed texts left indices 0
-IsIndexed-none texts left indices all none = record { before = []; whole = sym all; count = refl; index = rw none IsIndex-none }
+IsIndexed-none texts left indices all none = record { before = []; whole = sym all; count = refl; held = rw none IsIndex-none }
 
 pub IsIndexed-next : (texts left others : List (List ℕ)) (indices new : ByBytes ℕ) (index : ℕ) (text : List ℕ) → IsIndexed texts left indices index → left ≡ text ∷ others
     → new ≡ insert indices text index → IsIndexed texts others new (index + 1)
@@ -167,7 +167,7 @@ IsIndexed-next texts left others indices new index text so is grown = record {
   before = so.before ++ text ∷ [];
   whole = so.whole ∙ ap (λ (l : List (List ℕ)). so.before ++ l) is ∙ sym (append_assoc so.before (text ∷ []) others);
   count = omega (arith, so.count, length-append so.before (text ∷ []));
-  index = rw (grown, so.count) (IsIndex-push indices so.before text so.index);
+  held = rw (grown, so.count) (IsIndex-push indices so.before text so.index);
 }
 
 pub IsIndexed-all : (texts left : List (List ℕ)) (indices : ByBytes ℕ) (index : ℕ) → IsIndexed texts left indices index → left ≡ [] → IsIndex indices texts

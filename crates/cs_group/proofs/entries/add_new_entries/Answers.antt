@@ -17,7 +17,7 @@ add_unmet-requires c =
     let own = c.args.second.now.header.flags in
     let entries = c.args.second.now.entries in
     let keys = group_keys own entries in
-    let index = c.loop-key.place in
+    let index = c.loop-key.index in
     let entry = c.index-entries-index.result in
     let so = c.loop-key.invariant in
     let left = sym so.0 ∙ c.in-Some.ensures.steps in
@@ -31,7 +31,7 @@ loop-key-preserved c =
     let own = c.args.second.now.header.flags in
     let entries = c.args.second.now.entries in
     let keys = group_keys own entries in
-    let index = c.loop-key.place in
+    let index = c.loop-key.index in
     let entry = c.index-entries-index.result in
     let so = c.loop-key.invariant in
     let left = sym so.0 ∙ c.in-Some.ensures.steps in
@@ -50,7 +50,7 @@ pub returns-clause-grown : goal.returns-clause-grown
 returns-clause-grown c = λ firsts met.
     let own = c.args.second.now.header.flags in
     let entries = c.args.second.now.entries in
-    let index = c.loop-key.place in
+    let index = c.loop-key.index in
     let so = c.loop-key.invariant in
     let le : length entries ≤ index = omega (arith, ap length (sym so.0 ∙ c.in-None.ensures.steps.0), length-drop index (group_keys own entries), length-map entries (λ (e : Entry). key_of own e.change)) in
     rw (take_all index entries le) at (so.2 firsts met)

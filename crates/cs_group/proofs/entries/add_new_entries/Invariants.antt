@@ -10,7 +10,7 @@ use Rattle.cs_group.proofs.entries.add_new_entries.Given as goal
 
 abbrev pub invariant-loop-key : goal.invariant-loop-key
 invariant-loop-key l =
-    (l.key-iterator ≡ drop l.place (group_keys l.second.header.flags l.second.entries))
+    (l.key-iterator ≡ drop l.index (group_keys l.second.header.flags l.second.entries))
     × (l.joined.flags ≡ l.initial.joined.flags)
     × ((firsts : List Entry) → AreMet (λ e. key_of l.initial.joined.flags e.change) l.met firsts l.second.entries
-    → l.joined.entries ≡ l.initial.joined.entries ++ filter (is_new (λ e. key_of l.initial.joined.flags e.change) firsts) (take l.place l.second.entries))
+    → l.joined.entries ≡ l.initial.joined.entries ++ filter (is_new (λ e. key_of l.initial.joined.flags e.change) firsts) (take l.index l.second.entries))

@@ -33,7 +33,7 @@ merge_entry-requires-clause-one_key c =
     let own = c.args.second.now.header.flags in
     let entry = c.args.entry.now in
     let seconds = c.args.second.now.entries in
-    let index = c.in-Some.place in
+    let index = c.in-Some.index in
     let other = c.index-entries-index.result in
     let at : IsIndexWhere (λ e. key_of own e.change ≡ key_of flags entry.change) seconds index = search rules in
     let same = c.entries.ensures.same ∙ ap (λ (g : GroupData). g.entries) c.group.ensures in
@@ -45,7 +45,7 @@ returns-in_ok-add_left-in-Some-clause-joined c =
     let own = c.args.second.now.header.flags in
     let entry = c.args.entry.now in
     let seconds = c.args.second.now.entries in
-    let index = c.in-Some.place in
+    let index = c.in-Some.index in
     let other = c.index-entries-index.result in
     let at : IsIndexWhere (λ e. key_of own e.change ≡ key_of flags entry.change) seconds index = search rules in
     let same = c.entries.ensures.same ∙ ap (λ (g : GroupData). g.entries) c.group.ensures in
@@ -60,5 +60,5 @@ returns-in_ok-add_left-in-Some-clause-found c =
     let own = c.args.second.now.header.flags in
     let entry = c.args.entry.now in
     let seconds = c.args.second.now.entries in
-    let at : IsIndexWhere (λ e. key_of own e.change ≡ key_of flags entry.change) seconds c.in-Some.place = search rules in
-    place_of own flags seconds entry c.requires.agree c.in-Some.place at
+    let at : IsIndexWhere (λ e. key_of own e.change ≡ key_of flags entry.change) seconds c.in-Some.index = search rules in
+    place_of own flags seconds entry c.requires.agree c.in-Some.index at

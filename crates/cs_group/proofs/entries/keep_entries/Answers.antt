@@ -31,7 +31,7 @@ loop-entry-preserved c =
     let at = take_more_at items i entry c.loop-entry-test.true c.entry-item.is in
     elim c.match-branch-3.branch [
       | in-Some w ↦
-          let index = w.in-Some.place in
+          let index = w.in-Some.index in
           let found : IsIndexWhere (λ e. key e ≡ key entry) seconds index = rw w.in-Some.is at c.in_ok-index.ensures.found in (
             grown,
             rw (w.met-is, at) (AreMet-marked key c.loop-entry.met.items (take i items) seconds entry so.1 index (apart_of c.args.second.now.header.flags flags seconds entry c.requires.agree once) so.2 found),

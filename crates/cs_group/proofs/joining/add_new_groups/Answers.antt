@@ -10,7 +10,7 @@ pub loop-index-preserved : goal.loop-index-preserved
 loop-index-preserved c = λ firsts so.
     let name = λ (g : GroupData). g.header.name in
     let groups = c.args.second.now in
-    let index = c.loop-index.place in
+    let index = c.loop-index.index in
     let group = c.group-item.result in
     let same = c.groups-group-items.ensures.same in
     let lt : index < length groups = rw same at c.loop-index-test.true in
@@ -28,4 +28,4 @@ loop-index-preserved c = λ firsts so.
 pub returns-clause-grown : goal.returns-clause-grown
 returns-clause-grown c = λ firsts so.
     let le = rw c.groups-group-items.ensures.same at c.loop-index-test.false in
-    rw (take_all c.loop-index.place c.args.second.now (omega (arith, le))) at (c.loop-index.invariant firsts so)
+    rw (take_all c.loop-index.index c.args.second.now (omega (arith, le))) at (c.loop-index.invariant firsts so)

@@ -8,4 +8,4 @@ use Rattle.cs_group.proofs.joining.add_new_groups.Given as goal
 
 abbrev pub invariant-loop-index : goal.invariant-loop-index
 invariant-loop-index l = (firsts : List GroupData) → AreMet (λ g. g.header.name) l.met firsts l.second
-    → l.groups.items ≡ l.initial.groups.items ++ filter (is_new (λ g. g.header.name) firsts) (take l.place l.second)
+    → l.groups.items ≡ l.initial.groups.items ++ filter (is_new (λ g. g.header.name) firsts) (take l.index l.second)

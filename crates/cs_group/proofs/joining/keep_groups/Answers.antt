@@ -44,7 +44,7 @@ loop-group-preserved c =
     let at = take_more_at items i group c.loop-group-test.true c.group-item.is in
     elim c.match-branch-3.branch [
       | in-Some w ↦
-          let index = w.in-Some.place in
+          let index = w.in-Some.index in
           let found : IsIndexWhere (λ g. name g ≡ name group) seconds index = rw w.in-Some.is at c.in_ok-index.ensures.found in (
             grown,
             rw (w.met-is, at) (AreMet-marked name c.loop-group.met.items (take i items) seconds group so.1 index c.groups.ensures.well_formed.once so.2 found),

@@ -11,5 +11,5 @@ loop-index-init c = rw c.new-indices.ensures IsIndex-none
 pub loop-index-preserved : goal.loop-index-preserved
 loop-index-preserved c =
     let name = c.in_ok-name.ensures.items ∙ c.as_bytes.ensures.value ∙ c.name.ensures ∙ ap (λ (h : HeaderData). h.name) c.header.ensures.same in
-    let grown = c.in_ok-insert.ensures.ok ∙ ap (λ k. insert c.loop-index.indices k c.loop-index.place) name in
-    IsIndex-more (λ (g : GroupData). g.header.name) c.loop-index.indices c.insert.new.self c.args.groups.now c.index-groups-index.result c.loop-index.place c.loop-index-test.true c.index-groups-index.is c.loop-index.invariant grown
+    let grown = c.in_ok-insert.ensures.ok ∙ ap (λ k. insert c.loop-index.indices k c.loop-index.index) name in
+    IsIndex-more (λ (g : GroupData). g.header.name) c.loop-index.indices c.insert.new.self c.args.groups.now c.index-groups-index.result c.loop-index.index c.loop-index-test.true c.index-groups-index.is c.loop-index.invariant grown

@@ -11,10 +11,10 @@ loop-key-init c = IsIndexed-none c.args.keys.items (into_iter_items c.into_iter-
 
 pub loop-key-preserved : goal.loop-key-preserved
 loop-key-preserved c =
-    let grown = c.in_ok-insert.ensures.ok ∙ ap (λ (k : List ℕ). insert c.loop-key.indices k c.loop-key.place) c.into_bytes.ensures in
-    IsIndexed-next c.args.keys.items (into_iter_items c.loop-key.key-iterator) (into_iter_items c.next.new.self) c.loop-key.indices c.insert.new.self c.loop-key.place c.in-Some.key c.loop-key.invariant c.in-Some.ensures.steps.0 grown
+    let grown = c.in_ok-insert.ensures.ok ∙ ap (λ (k : List ℕ). insert c.loop-key.indices k c.loop-key.index) c.into_bytes.ensures in
+    IsIndexed-next c.args.keys.items (into_iter_items c.loop-key.key-iterator) (into_iter_items c.next.new.self) c.loop-key.indices c.insert.new.self c.loop-key.index c.in-Some.key c.loop-key.invariant c.in-Some.ensures.steps.0 grown
 
 pub returns : goal.returns
 returns c =
     let none : into_iter_items c.loop-key.key-iterator ≡ [] = nil_from_length _ (omega (arith, c.in-None.ensures.steps.0)) in
-    IsIndexed-all c.args.keys.items (into_iter_items c.loop-key.key-iterator) c.loop-key.indices c.loop-key.place c.loop-key.invariant none
+    IsIndexed-all c.args.keys.items (into_iter_items c.loop-key.key-iterator) c.loop-key.indices c.loop-key.index c.loop-key.invariant none

@@ -4,4 +4,4 @@ use Rattle.cs_wire.proofs.IndexLemmas.{IsIndexed}
 use Rattle.cs_wire.proofs.group.indices_of.Given as goal
 
 abbrev pub invariant-loop-key : goal.invariant-loop-key
-invariant-loop-key l = IsIndexed l.fn.keys.items (into_iter_items l.key-iterator) l.indices l.place
+invariant-loop-key l = IsIndexed l.fn.keys.items (into_iter_items l.key-iterator) l.indices l.index

@@ -8,6 +8,6 @@ pub returns : goal.returns
 returns c =
     let links = c.self.inside.links.items in
     let within = rw (← c.self.view_is) at c.requires in
-    let lt : c.args.place < length links = omega (arith, within, length-map links (λ (l : Link). l.number)) in
-    let is : get_or (map (λ (l : Link). l.before) links) c.args.place 0 ≡ c.index.result.now.before = get_or-map (λ (l : Link). l.before) links c.args.place c.index.result.now 0 lt ∙ ap (λ (l : Link). l.before) (sym c.index.ensures) in
-    rw (← c.self.view_is, ← is) (c.self.invariant.each_before c.args.place within)
+    let lt : c.args.index < length links = omega (arith, within, length-map links (λ (l : Link). l.number)) in
+    let is : get_or (map (λ (l : Link). l.before) links) c.args.index 0 ≡ c.index.result.now.before = get_or-map (λ (l : Link). l.before) links c.args.index c.index.result.now 0 lt ∙ ap (λ (l : Link). l.before) (sym c.index.ensures) in
+    rw (← c.self.view_is, ← is) (c.self.invariant.each_before c.args.index within)

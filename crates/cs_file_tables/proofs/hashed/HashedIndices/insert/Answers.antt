@@ -7,5 +7,5 @@ use Rattle.cs_file_tables.proofs.hashed.HashedIndices.insert.Goals as goal
 
 pub returns-clause-ok : goal.returns-clause-ok
 returns-clause-ok c =
-    ap (as_map cow_slice_items) c.in_ok-insert.ensures.entries ∙ is_inserted cow_slice_items c.args.text c.args.place c.self.inside.indices.entries
-    ∙ ap (λ m. map.insert m (cow_slice_items c.args.text) c.args.place) c.self.view_is
+    ap (as_map cow_slice_items) c.in_ok-insert.ensures.entries ∙ is_inserted cow_slice_items c.args.text c.args.index c.self.inside.indices.entries
+    ∙ ap (λ m. map.insert m (cow_slice_items c.args.text) c.args.index) c.self.view_is

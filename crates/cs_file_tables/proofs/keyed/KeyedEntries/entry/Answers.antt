@@ -9,7 +9,7 @@ use Rattle.cs_file_tables.proofs.keyed.KeyedEntries.entry.Goals as goal
 pub returns-clause-some : goal.returns-clause-some
 returns-clause-some c = λ entries groups keyed.
     let inside = c.self.inside in
-    let index = c.args.place in
+    let index = c.args.index in
     let view : KeyedFile = record { file = inside.file.now; flags = inside.flags.now; bounds = inside.bounds.items; chains = inside.chains } in
     let own : AreKeyed view entries groups = subst (λ (k : KeyedFile). AreKeyed k entries groups) (sym c.self.view_is) keyed in
     let lt : index < count_of view = rw (← c.self.view_is) at c.requires in

@@ -25,8 +25,8 @@ loop-index-preserved-in_default g c =
       counted = length_push so.before taken.field ∙ ap (λ n. n + 1) so.counted;
       whole = passed_one c.args.fields so.before c.loop-index.left _ taken.field so.whole taken.is;
       some = so.some ∙ sym (some_undefined so.before taken.field taken.holds);
-      leads = lead_undefined text between so.before c.loop-index.place so.counted taken.field c.loop-index.lead.now taken.holds so.leads;
-      gathered = Gathered-is _ (terms_undefined text between so.before c.loop-index.place so.counted taken.field taken.holds) so.gathered;
+      leads = lead_undefined text between so.before c.loop-index.index so.counted taken.field c.loop-index.lead.now taken.holds so.leads;
+      gathered = Gathered-is _ (terms_undefined text between so.before c.loop-index.index so.counted taken.field taken.holds) so.gathered;
     }
 
 pub returns-in_err-add_term : goal.returns-in_err-add_term
@@ -34,8 +34,8 @@ returns-in_err-add_term g c =
     let so = c.loop-index.invariant in
     let taken = c.in-Some.ensures in
     record {
-      text = Gathers-stopped _ _ {t2 = c.loop-index.lead.now ++ term_text c.args.terms c.loop-index.place (value_of c.in-Some.value)} _ _ c.from_residual.ensures.0
-          (terms_around (term_text c.args.terms) (between_of c.args.terms) so.before c.loop-index.place so.counted taken.field _ taken.holds c.loop-index.lead.now c.args.fields c.loop-index.left _ so.whole taken.is so.leads)
+      text = Gathers-stopped _ _ {t2 = c.loop-index.lead.now ++ term_text c.args.terms c.loop-index.index (value_of c.in-Some.value)} _ _ c.from_residual.ensures.0
+          (terms_around (term_text c.args.terms) (between_of c.args.terms) so.before c.loop-index.index so.counted taken.field _ taken.holds c.loop-index.lead.now c.args.fields c.loop-index.left _ so.whole taken.is so.leads)
           so.gathered c.in_err-add_term.ensures;
       some = search rules;
     }
@@ -51,8 +51,8 @@ loop-index-preserved g c =
       counted = length_push so.before taken.field ∙ ap (λ n. n + 1) so.counted;
       whole = passed_one c.args.fields so.before c.loop-index.left _ taken.field so.whole taken.is;
       some = sym (some_defined so.before taken.field _ taken.holds);
-      leads = c.between-lead.ensures ∙ lead_defined text between so.before c.loop-index.place so.counted taken.field _ taken.holds;
-      gathered = Gathered-more _ (terms_push text between so.before c.loop-index.place so.counted taken.field _ taken.holds c.loop-index.lead.now so.leads) so.gathered c.in_ok-add_term.ensures.gathered;
+      leads = c.between-lead.ensures ∙ lead_defined text between so.before c.loop-index.index so.counted taken.field _ taken.holds;
+      gathered = Gathered-more _ (terms_push text between so.before c.loop-index.index so.counted taken.field _ taken.holds c.loop-index.lead.now so.leads) so.gathered c.in_ok-add_term.ensures.gathered;
     }
 
 pub returns : goal.returns

@@ -10,7 +10,7 @@ use Rattle.cs_file_texts.proofs.texts.sql.add_terms.Given as goal
 abbrev pub invariant-loop-index : goal.invariant-loop-index
 invariant-loop-index g l = record {
   before : List OwnedField;
-  counted : length before ≡ l.place;
+  counted : length before ≡ l.index;
   whole : l.fn.fields ≡ before ++ l.left;
   some : l.some ≡ list_any is_defined before;
   leads : l.lead ≡ lead_of (between_of l.terms) (by_index (term_text l.terms) 0 before);

@@ -14,7 +14,7 @@ returns-in-None c = λ groups group listed is same. (
 
 pub returns-in-Some : goal.returns-in-Some
 returns-in-Some c = λ groups group listed is same.
-    let index = c.in-Some.place in
+    let index = c.in-Some.index in
     let name = ap (λ (h : HeaderData). h.name) same in
     let flags = ap (λ (h : HeaderData). key_marks h.flags) same in
     let own = ap (λ (h : HeaderData). key_marks h.flags) c.header.ensures.same in

@@ -11,7 +11,7 @@ use Rattle.cs_files.proofs.joining.columns.first_clash.Goals as goal
 
 pub returns-then-not-agrees-clause-clash : goal.returns-then-not-agrees-clause-clash
 returns-then-not-agrees-clause-clash c = λ groups others known is added.
-    let index = c.loop-index.place in
+    let index = c.loop-index.index in
     let named = c.args.added.now in
     let lt = rw c.len-index-end.ensures at c.loop-index-test.true in
     record {
@@ -24,7 +24,7 @@ returns-then-not-agrees-clause-clash c = λ groups others known is added.
 
 pub loop-index-preserved : goal.loop-index-preserved
 loop-index-preserved c = λ groups others known is added.
-    let index = c.loop-index.place in
+    let index = c.loop-index.index in
     let named = c.args.added.now in
     let lt = rw c.len-index-end.ensures at c.loop-index-test.true in
     let group = group_at named others added index lt in
@@ -34,5 +34,5 @@ loop-index-preserved c = λ groups others known is added.
 pub returns-clause-none : goal.returns-clause-none
 returns-clause-none c = λ groups others known is added.
     let named = c.args.added.now in
-    let le : length others ≤ c.loop-index.place = omega (arith, c.loop-index-test.false, c.len-index-end.ensures, tables_length named.file named.tables others [] added) in
-    rw (take_all c.loop-index.place others le) at (c.loop-index.invariant groups others known is added)
+    let le : length others ≤ c.loop-index.index = omega (arith, c.loop-index-test.false, c.len-index-end.ensures, tables_length named.file named.tables others [] added) in
+    rw (take_all c.loop-index.index others le) at (c.loop-index.invariant groups others known is added)

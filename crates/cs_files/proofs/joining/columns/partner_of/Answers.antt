@@ -12,9 +12,9 @@ returns-in_err-index-clause-found c = λ groups listed is asked.
 pub returns-then-not-have_same_columns-clause-found : goal.returns-then-not-have_same_columns-clause-found
 returns-then-not-have_same_columns-clause-found c = λ groups listed is asked.
     let own = ap (λ (h : HeaderData). key_marks h.flags) c.header.ensures.same in
-    let same = c.have_same_columns.ensures.1 (own ∙ asked_there c.args.named.now groups listed is c.args.header.now.name.now c.in_ok-index.place c.in_ok-index.ensures.found c.args.header.now.flags.now asked) in
+    let same = c.have_same_columns.ensures.1 (own ∙ asked_there c.args.named.now groups listed is c.args.header.now.name.now c.in_ok-index.index c.in_ok-index.ensures.found c.args.header.now.flags.now asked) in
     absurd cc
 
 pub returns-clause-found : goal.returns-clause-found
 returns-clause-found c = λ groups listed is asked.
-    rw c.open.ensures (partner_there c.args.named.now groups listed is c.args.header.now.name.now c.in_ok-index.place c.in_ok-index.ensures.found)
+    rw c.open.ensures (partner_there c.args.named.now groups listed is c.args.header.now.name.now c.in_ok-index.index c.in_ok-index.ensures.found)

@@ -35,7 +35,7 @@ entries-preserved-in-Some-2 c =
     let so = c.entries.invariant in
     let seen = c.in-Some.entry in
     let here = c.in-Some.ensures.flags.1 ∙ so.0 in
-    let index = c.in-Some-2.place in (
+    let index = c.in-Some-2.index in (
       c.in-Some.ensures.flags.0 ∙ so.0,
       length-set c.entries.met.items index true ∙ so.1,
       λ entries others groups behind left keyed apart.

@@ -12,7 +12,7 @@ use Rattle.cs_files.proofs.joining.entries.write_new.Goals as goal
 
 pub loop-index-preserved : goal.loop-index-preserved
 loop-index-preserved c = λ flags firsts others behind keyed so.
-    let index = c.loop-index.place in
+    let index = c.loop-index.index in
     let at = c.bytes.ensures others behind keyed in
     let entry = get_or others index no_entry in
     let is : entry ≡ get_or others index entry = get_or_default others index no_entry entry at.within in
@@ -22,5 +22,5 @@ loop-index-preserved c = λ flags firsts others behind keyed so.
 
 pub returns : goal.returns
 returns c = λ flags firsts others behind keyed so.
-    written_last (λ e. some_bytes entry_bytes (if_new (λ (f : Entry). key_of flags f.change) firsts e)) others c.loop-index.place c.args.out.now.items c.loop-index.out.items (c.loop-index.invariant flags firsts others behind keyed so) _
+    written_last (λ e. some_bytes entry_bytes (if_new (λ (f : Entry). key_of flags f.change) firsts e)) others c.loop-index.index c.args.out.now.items c.loop-index.out.items (c.loop-index.invariant flags firsts others behind keyed so) _
     (omega (arith, c.loop-index-test.false, c.len-index-end.ensures, as_many c.args.seconds.now others behind keyed)) (new_flat entry_bytes (λ (f : Entry). key_of flags f.change) firsts others)

@@ -12,4 +12,4 @@ use Rattle.cs_files.proofs.joining.entries.write_new.Given as goal
 
 abbrev pub invariant-loop-index : goal.invariant-loop-index
 invariant-loop-index l = (flags : List ℕ) (firsts others : List Entry) (behind : List GroupData) → AreKeyed l.seconds others behind → AreMet (λ e. key_of flags e.change) l.met firsts others
-    → l.out.items ≡ l.initial.out.items ++ flat_map (λ e. some_bytes entry_bytes (if_new (λ f. key_of flags f.change) firsts e)) (take l.place others)
+    → l.out.items ≡ l.initial.out.items ++ flat_map (λ e. some_bytes entry_bytes (if_new (λ f. key_of flags f.change) firsts e)) (take l.index others)

@@ -10,7 +10,7 @@ use Rattle.cs_files.proofs.joining.tables.write_kept_tables.Goals as goal
 
 pub loop-index-preserved : goal.loop-index-preserved
 loop-index-preserved c = λ groups others known added is joinable.
-    let index = c.loop-index.place in
+    let index = c.loop-index.index in
     let named = c.args.known.now in
     let lt = rw c.len-index-end.ensures at c.loop-index-test.true in
     let group = group_at named groups known index lt in
@@ -24,5 +24,5 @@ loop-index-preserved c = λ groups others known added is joinable.
 pub returns : goal.returns
 returns c = λ groups others known added is joinable.
     let named = c.args.known.now in
-    written_last (λ g. some_bytes group_bytes (outcome table_name joined_group others g)) groups c.loop-index.place c.args.out.now.items c.loop-index.out.items (c.loop-index.invariant groups others known added is joinable) _
+    written_last (λ g. some_bytes group_bytes (outcome table_name joined_group others g)) groups c.loop-index.index c.args.out.now.items c.loop-index.out.items (c.loop-index.invariant groups others known added is joinable) _
     (omega (arith, c.loop-index-test.false, c.len-index-end.ensures, tables_length named.file named.tables groups [] known)) (some_flat group_bytes (outcome table_name joined_group others) groups)

@@ -9,4 +9,4 @@ use Rattle.cs_files.proofs.joining.tables.write_kept_tables.Given as goal
 
 abbrev pub invariant-loop-index : goal.invariant-loop-index
 invariant-loop-index l = (groups others : List GroupData) → AreListed l.known groups → AreListed l.added others → IsChangeset others → AreJoinable groups others
-    → l.out.items ≡ l.initial.out.items ++ flat_map (λ g. some_bytes group_bytes (outcome table_name joined_group others g)) (take l.place groups)
+    → l.out.items ≡ l.initial.out.items ++ flat_map (λ g. some_bytes group_bytes (outcome table_name joined_group others g)) (take l.index groups)

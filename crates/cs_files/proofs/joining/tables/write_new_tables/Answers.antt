@@ -10,7 +10,7 @@ use Rattle.cs_files.proofs.joining.tables.write_new_tables.Goals as goal
 
 pub loop-index-preserved : goal.loop-index-preserved
 loop-index-preserved c = λ groups others known is added.
-    let index = c.loop-index.place in
+    let index = c.loop-index.index in
     let named = c.args.added.now in
     let lt = rw c.len-index-end.ensures at c.loop-index-test.true in
     let group = group_at named others added index lt in
@@ -23,5 +23,5 @@ loop-index-preserved c = λ groups others known is added.
 pub returns : goal.returns
 returns c = λ groups others known is added.
     let named = c.args.added.now in
-    written_last (λ g. some_bytes group_bytes (if_new table_name groups g)) others c.loop-index.place c.args.out.now.items c.loop-index.out.items (c.loop-index.invariant groups others known is added) _
+    written_last (λ g. some_bytes group_bytes (if_new table_name groups g)) others c.loop-index.index c.args.out.now.items c.loop-index.out.items (c.loop-index.invariant groups others known is added) _
     (omega (arith, c.loop-index-test.false, c.len-index-end.ensures, tables_length named.file named.tables others [] added)) (new_flat group_bytes table_name groups others)

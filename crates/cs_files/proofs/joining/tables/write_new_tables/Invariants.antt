@@ -9,4 +9,4 @@ use Rattle.cs_files.proofs.joining.tables.write_new_tables.Given as goal
 
 abbrev pub invariant-loop-index : goal.invariant-loop-index
 invariant-loop-index l = (groups others : List GroupData) → AreListed l.known groups → IsChangeset groups → AreListed l.added others
-    → l.out.items ≡ l.initial.out.items ++ flat_map (λ g. some_bytes group_bytes (if_new table_name groups g)) (take l.place others)
+    → l.out.items ≡ l.initial.out.items ++ flat_map (λ g. some_bytes group_bytes (if_new table_name groups g)) (take l.index others)
