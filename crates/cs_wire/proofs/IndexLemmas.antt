@@ -167,7 +167,7 @@ IsIndexed-next texts left others indices new index text so is grown = record {
   before = so.before ++ text ∷ [];
   whole = so.whole ∙ ap (λ (l : List (List ℕ)). so.before ++ l) is ∙ sym (append_assoc so.before (text ∷ []) others);
   count = omega (arith, so.count, length-append so.before (text ∷ []));
-  held = rw (grown, so.count) (IsIndex-push indices so.before text so.index);
+  held = rw (grown, so.count) (IsIndex-push indices so.before text so.held);
 }
 
 pub IsIndexed-all : (texts left : List (List ℕ)) (indices : ByBytes ℕ) (index : ℕ) → IsIndexed texts left indices index → left ≡ [] → IsIndex indices texts
