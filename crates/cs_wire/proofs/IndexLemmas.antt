@@ -171,7 +171,7 @@ IsIndexed-next texts left others indices new index text so is grown = record {
 }
 
 pub IsIndexed-all : (texts left : List (List ℕ)) (indices : ByBytes ℕ) (index : ℕ) → IsIndexed texts left indices index → left ≡ [] → IsIndex indices texts
-IsIndexed-all texts left indices index so none = rw (so.whole ∙ ap (λ (l : List (List ℕ)). so.before ++ l) none ∙ append-nil so.before) so.index
+IsIndexed-all texts left indices index so none = rw (so.whole ∙ ap (λ (l : List (List ℕ)). so.before ++ l) none ∙ append-nil so.before) so.held
 
 -- no more texts have indices than there are
 pub IsIndexed-within : (texts left : List (List ℕ)) (indices : ByBytes ℕ) (index : ℕ) → IsIndexed texts left indices index → index ≤ length texts
