@@ -85,7 +85,8 @@ pub fn mark<S: Alter>(conn: &mut Connection<S>) -> Result<(), RecordsError>
     Ok(())
 }
 
-/// Drops the newest mark. What was written since stays. If it fails, the transaction is rolled back.
+/// Drops the newest mark, which must be there. What was written since stays. If it fails, the transaction is rolled
+/// back.
 pub fn release<S: Alter>(conn: &mut Connection<S>) -> Result<(), RecordsError>
     ensures released { (before : List Savepoint) (db : Database) → IsMarked before db (state S.Store conn.old)
         → HasCleanDisk (state S.Store conn.new)
@@ -103,8 +104,8 @@ pub fn release<S: Alter>(conn: &mut Connection<S>) -> Result<(), RecordsError>
     Ok(())
 }
 
-/// Takes the open transaction back to its newest mark, and drops the mark. If that fails, the transaction is rolled
-/// back. It does nothing where none is open.
+/// Takes the open transaction back to its newest mark, which must be there, and drops the mark. If that fails, the
+/// transaction is rolled back. It does nothing where none is open.
 pub fn go_back<S: Alter>(conn: &mut Connection<S>)
     ensures back { (before : List Savepoint) (db : Database)
         → (IsTrue (state S.Store conn.old).in_transaction → IsMarked before db (state S.Store conn.old))

@@ -54,7 +54,8 @@ pub fn mark<S: Alter>(conn: &mut Connection<S>) -> Result<(), StoreError>
     }
 }
 
-/// Drops the newest mark of a connection. What was written since stays. If it fails, the transaction is rolled back.
+/// Drops the newest mark of a connection, which must be there. What was written since stays. If it fails, the
+/// transaction is rolled back.
 pub fn release<S: Alter>(conn: &mut Connection<S>) -> Result<(), StoreError>
     ensures released { (before : List Savepoint) (db : Database) → IsMarked before db (state S.Store conn.old)
         → HasCleanDisk (state S.Store conn.new)
