@@ -7,3 +7,4 @@ pub mod LeftLemmas
 pub mod OpeningLemmas
 pub mod TransactLemmas
 pub mod TurnLemmas
+pub mod WithinLemmas

@@ -1,6 +1,7 @@
 pub mod Opening
 pub mod Transacts
 pub mod Turns
+pub mod Within
 pub use Rattle.cs_store_tables.specs.Refusals
 pub use Rattle.cs_store_tables.specs.Store
 pub use Rattle.cs_store_tables.specs.Crash

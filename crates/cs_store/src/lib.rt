@@ -18,9 +18,11 @@ mod batch;
 mod laws;
 mod opening;
 mod store;
+mod transaction;
 
 pub use batch::SqlBatch;
 pub use cs_rows::{Cause, Edit, MemRows, Rows, Schema, StoreError, Written, edit_in};
 pub use laws::memory_law;
 pub use opening::Unopened;
 pub use store::Store;
+pub use transaction::Transaction;

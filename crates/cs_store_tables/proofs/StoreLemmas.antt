@@ -44,7 +44,7 @@ shown_store old new shown was = record {
   others = λ k. others_one new (shown.now_is ∙ sym shown.committed_is);
 }
 
-dropped_store : (old new : State) → IsUndone old new → IsStore old → IsStore new
+pub dropped_store : (old new : State) → IsUndone old new → IsStore old → IsStore new
 dropped_store old new undone was = record {
   open_inside = λ k. absurd (true≢false (sym k ∙ undone.autocommit));
   settled = λ out k. undone.now k ∙ sym (undone.committed k);
@@ -139,7 +139,7 @@ write_keeps old new inside crash wrote = record {
 }
 
 -- a transaction that goes on with this content
-back_store : (old new : State) (db : Database) → Shows old new db old.committed true → HoldsState db → KeepsOthers old.committed db → IsStore old → IsStore new
+pub back_store : (old new : State) (db : Database) → Shows old new db old.committed true → HoldsState db → KeepsOthers old.committed db → IsStore old → IsStore new
 back_store old new db shown holds others was = record {
   open_inside = λ k. shown.is_open;
   settled = λ out k. absurd (true≢false (sym shown.mode ∙ out));

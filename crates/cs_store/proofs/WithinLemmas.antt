@@ -1,0 +1,239 @@
+-- A call in a transaction: it sets a mark, works, and drops the mark, or goes back to it.
+use Rattle.std.proofs.Common.{◌≡◌, ◌⊎◌, ◌≤◌, inl, inr, true, false, IsTrue, true≢false, List, [], Result, Ok, Err, refl, sym, ap, subst, ◌∙◌}
+use Rattle.std.proofs.lemmas.Bool.{cases_Bool}
+use Rattle.sqlite.specs.Effect.{Database}
+use Rattle.sqlite.specs.State.{State, Savepoint, HasCleanDisk, KeepsCommit, Shows}
+use Rattle.sqlite.specs.declared.error.Error.{Error}
+use Rattle.cs_value.specs.State as tables
+use Rattle.cs_rows.specs.declared.fault.Cause.{Cause}
+use Rattle.cs_store_records.specs.Failing.{Statement, LeadsTo, itself}
+use Rattle.cs_store_records.specs.Marks.{HasMark, IsMarked}
+use Rattle.cs_store_records.specs.Records.{IsUndone, KeepsContent, KeepsCrash, KeepsOthers}
+use Rattle.cs_store_records.proofs.ContentLemmas.{crash_then}
+use Rattle.cs_store_records.proofs.ReadFailures.{read_to}
+use Rattle.cs_store_tables.specs.Failing.{BatchFails, CallFails, IsMade, LeadsOn, MarkFails, ReleaseFails}
+use Rattle.cs_store_tables.specs.Laws.{batch_then, disk_then, mark_stays, was_clean}
+use Rattle.cs_store_tables.specs.Refusals.{cause_of}
+use Rattle.cs_store_tables.specs.Store.{HoldsState, IsSound, IsStore, KeepsStore, tables_in}
+use Rattle.cs_store_tables.proofs.StoreLemmas.{back_store, content_store, dropped_sound, dropped_store}
+use Rattle.cs_store.specs.Within.{Within}
+
+-- no transaction is open where one has ended
+over : {X : Type 0} (old new : State) → IsUndone old new → IsTrue new.in_transaction → X
+over old new undone inside = absurd (true≢false (sym inside ∙ undone.autocommit))
+
+-- a call that ends the transaction keeps the store
+undone_keeps : (old new : State) → KeepsCrash old new → (HasCleanDisk new → IsUndone old new) → KeepsStore old new
+undone_keeps old new crash undone = record {
+  crash = crash;
+  commit = λ clean. let back = undone clean in record { was_open = back.was_open; committed = back.committed };
+  sound = dropped_sound old new crash undone;
+  outside = λ clean out settled. let back = undone clean in record {
+    was_open = back.was_open;
+    mode = back.autocommit ∙ sym out;
+    inside = λ inside is_open. over old new back inside;
+    now = λ is_open. back.now is_open ∙ sym (settled (back.was_open is_open));
+    committed = back.committed;
+  };
+  inside = λ clean inside. over old new (undone clean) inside;
+  marks = λ clean inside was. over old new (undone clean) inside;
+}
+
+-- a call is refused, and the transaction has ended
+pub ended_within : {X E : Type 0} (e : E) (Makes : tables.State → Type 0) (old new : State) → KeepsCrash old new → (HasCleanDisk new → IsUndone old new) → Within {X = X} Makes old new (Err e)
+ended_within e Makes old new crash undone = record {
+  kept = undone_keeps old new crash undone;
+  made = λ clean. tt;
+  back = λ clean inside. over old new (undone clean) inside;
+  ended = λ clean out. undone clean;
+}
+
+-- what a transaction shows that goes on unchanged
+shown_content : (old new : State) → IsTrue old.in_transaction → Shows old new old.now old.committed true → KeepsContent old new
+shown_content old new inside shown = record {
+  was_open = λ is_open. shown.was_open;
+  mode = shown.mode ∙ sym inside;
+  inside = λ inside is_open. shown.is_open;
+  now = λ is_open. shown.now_is;
+  committed = λ is_open. shown.committed_is;
+}
+
+module _ (old marked mid : State)
+    (is_marked : HasCleanDisk marked → IsTrue old.in_transaction × Shows old marked old.now old.committed true × IsMarked old.marks old.now marked)
+    (starts : KeepsCrash old marked) (keeps : KeepsStore marked mid) where
+  was_marked : HasCleanDisk mid → HasCleanDisk marked
+  was_marked = was_clean marked mid keeps.crash
+
+  worked : KeepsCrash old mid
+  worked = crash_then old marked mid starts keeps.crash
+
+  -- the mark is there where the transaction is still open
+  pub mark_there : HasCleanDisk mid → IsTrue mid.in_transaction → IsMarked old.marks old.now mid
+  mark_there clean inside = mark_stays old.marks old.now keeps clean inside (is_marked (was_marked clean)).2
+
+  -- what was committed stays
+  mid_commit : HasCleanDisk mid → KeepsCommit old mid
+  mid_commit clean =
+      let shown = (is_marked (was_marked clean)).1 in
+      let commit = keeps.commit clean in
+      record { was_open = λ is_open. shown.was_open; committed = λ is_open. commit.committed is_open ∙ shown.committed_is }
+
+  -- to what it goes back
+  pub goes_back_to : (HasCleanDisk old → IsTrue old.is_open → HoldsState old.now × KeepsOthers old.committed old.now) → HasCleanDisk mid → IsTrue mid.in_transaction
+      → (before : List Savepoint) × (db : Database) × HoldsState db × (IsTrue mid.is_open → KeepsOthers mid.committed db) × IsMarked before db mid
+  goes_back_to holds clean inside =
+      let was = was_marked clean in
+      let it = holds (was_clean old marked starts was) (is_marked was).1.was_open in (
+        old.marks,
+        old.now,
+        it.0,
+        λ is_open. subst (λ (db : Database). KeepsOthers db old.now) (sym ((mid_commit clean).committed is_open)) it.1,
+        mark_there clean inside,
+      )
+
+  marked_store : HasCleanDisk mid → IsSound old → IsStore mid
+  marked_store clean sound =
+      let was = was_marked clean in
+      let shown = is_marked was in
+      keeps.sound (λ now. content_store old marked (shown_content old marked shown.0 shown.1) (sound (was_clean old marked starts was))) clean
+
+  module _ (new : State) where
+    -- a transaction that ends goes back to what was committed when it began
+    undone_old : HasCleanDisk mid → IsUndone mid new → IsUndone old new
+    undone_old clean undone = record {
+      autocommit = undone.autocommit;
+      was_open = λ is_open. (mid_commit clean).was_open (undone.was_open is_open);
+      now = λ is_open. undone.now is_open ∙ (mid_commit clean).committed (undone.was_open is_open);
+      committed = λ is_open. undone.committed is_open ∙ (mid_commit clean).committed (undone.was_open is_open);
+    }
+
+    -- the work is done, and the mark is not dropped
+    pub unreleased_within : {X E : Type 0} (e : E) (Makes : tables.State → Type 0) → KeepsCrash mid new → (HasCleanDisk new → IsUndone mid new) → Within {X = X} Makes old new (Err e)
+    unreleased_within e Makes ends undone =
+        ended_within e Makes old new (crash_then old mid new worked ends) (λ clean. undone_old (was_clean mid new ends clean) (undone clean))
+
+    -- the work is done, and the mark is dropped
+    pub released_within : {X E : Type 0} (x : X) (Makes : tables.State → tables.State → Type 0) → KeepsCrash mid new
+        → (HasCleanDisk mid → IsTrue mid.in_transaction) → (HasCleanDisk mid → Makes (tables_in marked.now) (tables_in mid.now))
+        → (HasCleanDisk new → Shows mid new mid.now mid.committed true × (new.marks ≡ old.marks)) → Within {E = E} (Makes (tables_in old.now)) old new (Ok x)
+    released_within x Makes ends inside made released = record {
+      kept = record {
+        crash = crash_then old mid new worked ends;
+        commit = λ clean.
+            let commit = mid_commit (was_clean mid new ends clean) in
+            let shown = (released clean).0 in
+            record { was_open = λ is_open. commit.was_open shown.was_open; committed = λ is_open. shown.committed_is ∙ commit.committed shown.was_open };
+        sound = λ sound clean.
+            let was = was_clean mid new ends clean in
+            content_store mid new (shown_content mid new (inside was) (released clean).0) (marked_store was sound);
+        outside = λ clean out settled. absurd (true≢false (sym (is_marked (was_marked (was_clean mid new ends clean))).0 ∙ out));
+        inside = λ clean is. (is_marked (was_marked (was_clean mid new ends clean))).0;
+        marks = λ clean is was. (released clean).1;
+      };
+      made = λ clean.
+          let was = was_clean mid new ends clean in
+          let shown = (released clean).0 in (
+            record { is_open = shown.is_open; inside = shown.mode },
+            subst (λ (db : Database). Makes (tables_in old.now) (tables_in db)) (sym shown.now_is)
+                (subst (λ (db : Database). Makes (tables_in db) (tables_in mid.now)) (is_marked (was_marked was)).1.now_is (made was)),
+          );
+      back = λ clean. tt;
+      ended = λ clean. tt;
+    }
+
+    -- the work is refused, and the transaction goes back to the mark, or ends
+    pub back_within : {X E : Type 0} (e : E) (Makes : tables.State → Type 0) → KeepsCrash mid new
+        → (HasCleanDisk new → IsTrue new.in_transaction → IsTrue mid.in_transaction × Shows mid new old.now mid.committed true × (new.marks ≡ old.marks))
+        → (HasCleanDisk new → new.in_transaction ≡ false → IsUndone mid new) → Within {X = X} Makes old new (Err e)
+    back_within e Makes ends back undone = record {
+      kept = record {
+        crash = crash_then old mid new worked ends;
+        commit = λ clean.
+            let commit = mid_commit (was_clean mid new ends clean) in
+            elim (cases_Bool new.in_transaction) [
+              | inl inside ↦
+                  let shown = (back clean inside).1 in
+                  record { was_open = λ is_open. commit.was_open shown.was_open; committed = λ is_open. shown.committed_is ∙ commit.committed shown.was_open }
+              | inr out ↦
+                  let gone = undone_old (was_clean mid new ends clean) (undone clean out) in
+                  record { was_open = gone.was_open; committed = gone.committed }
+            ];
+        sound = λ sound clean.
+            let was = was_clean mid new ends clean in
+            let store = marked_store was sound in
+            elim (cases_Bool new.in_transaction) [
+              | inl inside ↦
+                  let shown = (back clean inside).1 in
+                  let commit = mid_commit was in
+                  let first = sound (was_clean old mid worked was) in
+                  let is_open = commit.was_open shown.was_open in
+                  back_store mid new old.now shown (first.now is_open) (subst (λ (db : Database). KeepsOthers db old.now) (sym (commit.committed shown.was_open)) (first.others is_open)) store
+              | inr out ↦ dropped_store mid new (undone clean out) store
+            ];
+        outside = λ clean out settled. absurd (true≢false (sym (is_marked (was_marked (was_clean mid new ends clean))).0 ∙ out));
+        inside = λ clean is. (is_marked (was_marked (was_clean mid new ends clean))).0;
+        marks = λ clean is was. (back clean is).2;
+      };
+      made = λ clean. tt;
+      back = λ clean inside. (back clean inside).1.now_is;
+      ended = λ clean out. undone_old (was_clean mid new ends clean) (undone clean out);
+    }
+
+    -- ---- for which causes
+
+    -- the mark is not dropped
+    pub release_fails : (Is : tables.State → Statement → Type 0) (why : Cause) → HasCleanDisk mid → mid.faults ≤ new.faults → ReleaseFails mid new why → BatchFails Is old new why
+    release_fails Is why clean counts (e, other, failed, is) = inr (e, other, inl (inl (disk_then old mid new e worked clean counts failed)), is)
+
+    -- the work fails
+    pub marked_fails : (Is : tables.State → Statement → Type 0) (why : Cause) → HasCleanDisk mid → KeepsCrash mid new → BatchFails Is marked mid why → BatchFails Is old new why
+    marked_fails Is why clean ends failed =
+        let was = was_marked clean in
+        let shown = (is_marked was).1 in
+        let leads : LeadsOn Is old marked = record {
+          inside = λ inside. shown.mode;
+          leads = subst (λ (db : Database). LeadsTo (IsMade Is) old.step_limit old.now db) (sym shown.now_is) itself;
+        } in
+        longer (batch_then Is old marked mid why starts was keeps.crash leads failed)
+      where
+        longer : BatchFails Is old mid why → BatchFails Is old new why
+        longer (inl outside) = inl outside
+        longer (inr (e, other, inl cannot, is)) = inr (e, other, inl (read_to old mid new e ends cannot), is)
+        longer (inr (e, other, inr refused, is)) = inr (e, other, inr refused, is)
+
+-- the mark is not set
+pub mark_fails : (Is : tables.State → Statement → Type 0) (old new : State) (why : Cause) → MarkFails old new why → BatchFails Is old new why
+mark_fails Is old new why (e, other, inl (outside, misplaced), is) = inl (outside, is ∙ ap cause_of misplaced)
+mark_fails Is old new why (e, other, inr failed, is) = inr (e, other, inl (inl failed), is)
+
+-- ---- a store stays one
+
+-- what a transaction goes back to is a store
+abbrev pub HasBefore : State → Type 0
+HasBefore s = (before : List Savepoint) × (db : Database) × HoldsState db × (IsTrue s.is_open → KeepsOthers s.committed db) × IsMarked before db s
+
+pub gone_sound : (old new : State) → (HasCleanDisk old → IsTrue old.in_transaction → HasBefore old)
+    → ((HasCleanDisk old → IsTrue old.in_transaction → HasMark old) → KeepsCrash old new)
+    → ((before : List Savepoint) (db : Database) → (IsTrue old.in_transaction → IsMarked before db old) → HasCleanDisk new → IsTrue new.in_transaction → IsTrue old.in_transaction × Shows old new db old.committed true × (new.marks ≡ before))
+    → ((IsTrue old.in_transaction → HasMark old) → HasCleanDisk new → new.in_transaction ≡ false → IsUndone old new) → IsSound old → IsSound new
+gone_sound old new has survives back undone sound clean = at (cases_Bool old.in_transaction)
+  where
+    crash : KeepsCrash old new
+    crash = survives (λ clean inside. let it = has clean inside in (it.0, it.1, it.4))
+
+    was : HasCleanDisk old
+    was = was_clean old new crash clean
+
+    at : IsTrue old.in_transaction ⊎ (old.in_transaction ≡ false) → IsStore new
+    at (inl inside) =
+        let it = has was inside in
+        let store = sound was in
+        elim (cases_Bool new.in_transaction) [
+          | inl still ↦ let shown = (back it.0 it.1 (λ k. it.4) clean still).1 in back_store old new it.1 shown it.2 (it.3 shown.was_open) store
+          | inr out ↦ dropped_store old new (undone (λ k. (it.0, it.1, it.4)) clean out) store
+        ]
+    at (inr outside) =
+        elim (cases_Bool new.in_transaction) [
+          | inl still ↦ absurd (true≢false (sym (back [] old.now (λ k. absurd (true≢false (sym k ∙ outside))) clean still).0 ∙ outside))
+          | inr out ↦ dropped_store old new (undone (λ k. absurd (true≢false (sym k ∙ outside))) clean out) (sound was)
+        ]

@@ -1,0 +1,312 @@
+//! Transactions that own their store.
+ghost use Rattle.std.specs.Prelude.{◌≡◌, ◌⊎◌, true, false, List, Ok, Err, IsTrue, OnOk, OnErr, IfOk, IfErr, map as map_list};
+ghost use Rattle.sqlite.specs.Effect.{Database};
+ghost use Rattle.sqlite.specs.State.{HasCleanDisk, Savepoint, Shows};
+ghost use Rattle.sqlite.specs.Held.{state};
+ghost use Rattle.cs_rows.specs.Faults.{IsCaused, IsResource, IsEditRefusal};
+ghost use Rattle.cs_rows.specs.Editing.{EditsInto, IsWriteOf, edited, written_of};
+ghost use Rattle.cs_store_records.specs.Marks.{HasMark, IsMarked};
+ghost use Rattle.cs_store_records.specs.Records.{IsUndone, KeepsContent, KeepsCrash, KeepsOthers};
+ghost use Rattle.cs_store_tables.specs.Crash.{IsAtomic, LeavesOnly};
+ghost use Rattle.cs_store_tables.specs.Failing.{BatchFails, BeginFails, CommitFails, MarkFails, ReleaseFails, Writes};
+ghost use Rattle.cs_store_tables.specs.Store.{Begins, Ends, HoldsState, IsInside, tables_in};
+ghost use Rattle.cs_store.specs.Within.{Within};
+
+use crate::store::Store;
+use cs_rows::{Edit, Rows, Schema, StoreError, Written, edit_in};
+use cs_store_records::transactions;
+use cs_store_tables::{commit, refused};
+use cs_value::{Key, Row};
+use sqlite::{Alter, Connection};
+use std::alloc::Global;
+use std::marker::Model;
+
+/// A transaction that owns its store: reads show what it wrote, and nothing lasts before [`commit`](Transaction::commit).
+///
+/// Dropping it closes the store as it was when the transaction began. [`roll_back`](Transaction::roll_back) gives the
+/// store back so.
+#[derive(Drop)]
+pub struct Transaction<S: Alter> {
+    pub(crate) store: Store<S>,
+}
+
+impl<S: Alter> Model for Transaction<S> {
+    ghost use Rattle.sqlite.specs.Held.{Held, held_code};
+
+    ghost Value = { Held S };
+
+    ghost coded = { held_code S.code };
+
+    ghost view = { λ t. t.store };
+}
+
+impl<S: Alter + Drop> Store<S> {
+    /// Begins a transaction that owns the store.
+    ///
+    /// # Errors
+    ///
+    /// They come with the store. `StoreFault` if a transaction is open or the database refuses, and `NoMemory` if out
+    /// of memory. What the store shows and what was committed stay.
+    pub fn into_transaction(self) -> Result<Transaction<S>, (StoreError, Store<S>)>
+        ensures begun { IfOk result (λ t. HasCleanDisk (state S.Store t)
+            → Begins (state S.Store self) (state S.Store t)) }
+        ensures survives { IfOk result (λ t. KeepsCrash (state S.Store self) (state S.Store t)) }
+        ensures leaves { IfOk result (λ t. LeavesOnly (λ left. left ≡ tables_in (state S.Store self).now)
+            (state S.Store t)) }
+        ensures refused { IfErr result (λ e. IsResource e.0) }
+        ensures caused { IfErr result (λ e. HasCleanDisk (state S.Store e.1)
+            → IsCaused (BeginFails (state S.Store self) (state S.Store e.1)) e.0) }
+        ensures kept { IfErr result (λ e. HasCleanDisk (state S.Store e.1)
+            → KeepsContent (state S.Store self) (state S.Store e.1)) }
+        ensures keeps_crash { IfErr result (λ e. KeepsCrash (state S.Store self) (state S.Store e.1)) }
+    {
+        let mut store = self;
+        store.known = None;
+        match transactions::begin(&mut store.conn) {
+            Ok(()) => Ok(Transaction { store }),
+            Err(error) => Err((refused(error), store)),
+        }
+    }
+}
+
+impl<S: Alter + Drop> Transaction<S> {
+    /// Commits what was written.
+    ///
+    /// A crash leaves the tables as when the transaction began, or as it has them; only these once the call is done,
+    /// and only those once it is refused and the store is still open.
+    ///
+    /// # Errors
+    ///
+    /// They come with the store, which is as when the transaction began. `StoreFault` if the database refuses, and
+    /// `NoMemory` if out of memory.
+    pub fn commit(self) -> Result<Store<S>, (StoreError, Store<S>)>
+        ensures committed { IfOk result (λ s. HasCleanDisk (state S.Store s)
+            → Ends (state S.Store self) (state S.Store s)) }
+        ensures others { IfOk result (λ s. HasCleanDisk (state S.Store s)
+            → KeepsOthers (state S.Store self).committed (state S.Store s).now) }
+        ensures atomic { IfOk result (λ s. IsAtomic IsInside (λ left. left ≡ tables_in (state S.Store self).now)
+            (state S.Store self) (state S.Store s)) }
+        ensures left { IfOk result (λ s. LeavesOnly (λ left. left ≡ tables_in (state S.Store self).now)
+            (state S.Store s)) }
+        ensures undone { IfErr result (λ e. HasCleanDisk (state S.Store e.1)
+            → IsUndone (state S.Store self) (state S.Store e.1)) }
+        ensures unsure { IfErr result (λ e. IsAtomic IsInside (λ left. left ≡ tables_in (state S.Store self).now)
+            (state S.Store self) (state S.Store e.1)) }
+        ensures stands { IfErr result (λ e. IsTrue (state S.Store e.1).is_open → LeavesOnly
+            (λ left. left ≡ tables_in (state S.Store self).committed) (state S.Store e.1)) }
+        ensures refused { IfErr result (λ e. IsResource e.0) }
+        ensures caused { IfErr result (λ e. HasCleanDisk (state S.Store e.1)
+            → IsCaused (CommitFails (state S.Store self) (state S.Store e.1)) e.0) }
+    {
+        let Transaction { mut store } = self;
+        store.known = None;
+        match commit(&mut store.conn) {
+            Ok(()) => Ok(store),
+            Err(error) => Err((error, store)),
+        }
+    }
+
+    /// Has no effect. Its contract says that an open transaction shows tables, and all else as it was committed.
+    pub fn store_law(&self)
+        ensures { HasCleanDisk (state S.Store self.now) → IsTrue (state S.Store self.now).is_open
+            → HoldsState (state S.Store self.now).now
+            × KeepsOthers (state S.Store self.now).committed (state S.Store self.now).now }
+    {
+        let _ = &self.store.conn;
+    }
+
+    /// Marks where the transaction is. [`go_back`](Transaction::go_back) goes back there, and
+    /// [`release`](Transaction::release) drops the mark.
+    ///
+    /// # Errors
+    ///
+    /// `StoreFault` if the transaction has ended or the database refuses, and `NoMemory` if out of memory. The
+    /// transaction has ended then, and the store is as it was when it began.
+    pub fn mark(&mut self) -> Result<(), StoreError>
+        ensures marked { HasCleanDisk (state S.Store self.new) → OnOk result
+            (IsTrue (state S.Store self.old).in_transaction × Shows (state S.Store self.old) (state S.Store self.new)
+            (state S.Store self.old).now (state S.Store self.old).committed true
+            × IsMarked (state S.Store self.old).marks (state S.Store self.old).now (state S.Store self.new)) }
+        ensures undone { HasCleanDisk (state S.Store self.new)
+            → OnErr result (IsUndone (state S.Store self.old) (state S.Store self.new)) }
+        ensures refused { IfErr result IsResource }
+        ensures caused { HasCleanDisk (state S.Store self.new)
+            → IfErr result (IsCaused (MarkFails (state S.Store self.old) (state S.Store self.new))) }
+        ensures survives { KeepsCrash (state S.Store self.old) (state S.Store self.new) }
+    {
+        let store = &mut self.store;
+        match cs_store_tables::mark(&mut store.conn) {
+            Ok(()) => Ok(()),
+            Err(error) => {
+                store.known = None;
+                Err(error)
+            }
+        }
+    }
+
+    /// Drops the newest mark. What was written since stays.
+    ///
+    /// # Errors
+    ///
+    /// `StoreFault` if the database refuses, and `NoMemory` if out of memory. The transaction has ended then, and the
+    /// store is as it was when it began.
+    pub fn release(&mut self) -> Result<(), StoreError>
+        requires { HasCleanDisk (state S.Store self.old) → HasMark (state S.Store self.old) }
+        ensures released { (before : List Savepoint) (db : Database) → IsMarked before db (state S.Store self.old)
+            → HasCleanDisk (state S.Store self.new) → OnOk result
+            (Shows (state S.Store self.old) (state S.Store self.new) (state S.Store self.old).now
+            (state S.Store self.old).committed true × ((state S.Store self.new).marks ≡ before)) }
+        ensures undone { HasCleanDisk (state S.Store self.new)
+            → OnErr result (IsUndone (state S.Store self.old) (state S.Store self.new)) }
+        ensures refused { IfErr result IsResource }
+        ensures caused { HasCleanDisk (state S.Store self.new)
+            → IfErr result (IsCaused (ReleaseFails (state S.Store self.old) (state S.Store self.new))) }
+        ensures survives { KeepsCrash (state S.Store self.old) (state S.Store self.new) }
+    {
+        let store = &mut self.store;
+        match cs_store_tables::release(&mut store.conn) {
+            Ok(()) => Ok(()),
+            Err(error) => {
+                store.known = None;
+                return Err(error);
+            }
+        }
+    }
+
+    /// Goes back to the newest mark, and drops it. If that fails, the transaction ends, and the store is as it was when
+    /// it began. It does nothing where it has ended.
+    pub fn go_back(&mut self)
+        requires { HasCleanDisk (state S.Store self.old) → IsTrue (state S.Store self.old).in_transaction
+            → (before : List Savepoint) × (db : Database) × HoldsState db
+            × (IsTrue (state S.Store self.old).is_open → KeepsOthers (state S.Store self.old).committed db)
+            × IsMarked before db (state S.Store self.old) }
+        ensures back { (before : List Savepoint) (db : Database)
+            → (IsTrue (state S.Store self.old).in_transaction → IsMarked before db (state S.Store self.old))
+            → HasCleanDisk (state S.Store self.new) → IsTrue (state S.Store self.new).in_transaction
+            → IsTrue (state S.Store self.old).in_transaction × Shows (state S.Store self.old) (state S.Store self.new)
+            db (state S.Store self.old).committed true × ((state S.Store self.new).marks ≡ before) }
+        ensures undone { HasCleanDisk (state S.Store self.new) → (state S.Store self.new).in_transaction ≡ false
+            → IsUndone (state S.Store self.old) (state S.Store self.new) }
+        ensures survives { KeepsCrash (state S.Store self.old) (state S.Store self.new) }
+    {
+        let store = &mut self.store;
+        store.known = None;
+        cs_store_tables::go_back(&mut store.conn);
+    }
+
+    /// Drops what was written, and returns the store as it was when the transaction began.
+    pub fn roll_back(self) -> Store<S>
+        ensures undone { HasCleanDisk (state S.Store result) → IsUndone (state S.Store self) (state S.Store result) }
+        ensures survives { KeepsCrash (state S.Store self) (state S.Store result) }
+    {
+        let Transaction { mut store } = self;
+        store.known = None;
+        transactions::roll_back(&mut store.conn);
+        store
+    }
+}
+
+impl<S: Alter + Drop> Transaction<S> {
+    /// Carries out an edit as [`edit_in`] does.
+    ///
+    /// # Errors
+    ///
+    /// Those of [`edit_in`], and `StoreFault` if the transaction has ended. It shows what it showed before, or has ended
+    /// then, if the disk failed or memory was refused.
+    pub fn edit(&mut self, alloc: Global, edit: &Edit) -> Result<Vec<Written>, StoreError>
+        ensures edited { HasCleanDisk (state S.Store self.new)
+            → IfOk result (λ w. edited (tables_in (state S.Store self.old).now) edit.now
+            ≡ Ok (record { state = tables_in (state S.Store self.new).now; written = map_list written_of w.items })) }
+        ensures refused { HasCleanDisk (state S.Store self.new) → IfErr result (λ e.
+            (edited (tables_in (state S.Store self.old).now) edit.now ≡ Err e) ⊎ IsResource e) }
+        ensures caused { HasCleanDisk (state S.Store self.new) → IfErr result (IsCaused (BatchFails
+            (Writes (IsWriteOf (tables_in (state S.Store self.old).now) edit.now)) (state S.Store self.old)
+            (state S.Store self.new))) }
+        ensures named { IfErr result IsEditRefusal }
+        ensures within { Within (EditsInto (tables_in (state S.Store self.old).now) edit.now)
+            (state S.Store self.old) (state S.Store self.new) result }
+    {
+        self.store_law();
+        self.mark()?;
+        match edit_in(alloc, self, edit) {
+            Ok(written) => {
+                self.release()?;
+                Ok(written)
+            }
+            Err(error) => {
+                self.go_back();
+                Err(error)
+            }
+        }
+    }
+}
+
+impl<S: Alter> Rows for Transaction<S> {
+    ghost use Rattle.std.proofs.Common.{◌≡◌, true, refl};
+    ghost use Rattle.sqlite.specs.State.{HasCleanDisk};
+    ghost use Rattle.sqlite.specs.Held.{state as shown};
+    ghost use Rattle.cs_store_tables.specs.Crash.{LeavesOnly};
+    ghost use Rattle.cs_store_tables.specs.Failing.{BatchFails, LeadsOn, Writes};
+    ghost use Rattle.cs_store_tables.specs.Store.{KeepsStore, tables_in};
+    ghost use Rattle.cs_store_tables.specs.Laws as laws;
+
+    ghost state = { λ t. tables_in (shown S.Store t).now };
+
+    ghost is_honest = { λ t. HasCleanDisk (shown S.Store t) };
+
+    ghost keeps = { λ Is accepted a b. KeepsStore (shown S.Store a) (shown S.Store b)
+        × (accepted ≡ true → HasCleanDisk (shown S.Store b)
+        → LeadsOn (Writes Is) (shown S.Store a) (shown S.Store b)) };
+
+    ghost keeps_itself = { λ Is b. (laws.keeps_itself, λ accepted clean. laws.leads_itself) };
+
+    ghost keeps_then = { λ Is accepted a b c one two. (
+      laws.keeps_then one.0 two.0,
+      λ is clean. laws.leads_on_then one.0.crash (one.1 refl (laws.was_clean (shown S.Store b)
+          (shown S.Store c) two.0.crash clean)) (two.1 is clean),
+    ) };
+
+    ghost keeps_refused = { λ Is accepted a b one. (one.0, λ is clean. one.1 refl clean) };
+
+    ghost keeps_so = { λ Is Are accepted a b so kept. (
+      kept.0,
+      λ is clean. laws.writes_so Is Are (λ held write. so held write clean) (kept.1 is clean),
+    ) };
+
+    ghost leaves_only = { λ t held. LeavesOnly (λ left. left ≡ held) (shown S.Store t) };
+
+    ghost leaves_still = { λ Is accepted a b held kept leaves. laws.leaves_then kept.0 leaves };
+
+    ghost fails = { λ Is a b. BatchFails (Writes Is) (shown S.Store a) (shown S.Store b) };
+
+    ghost fails_then = { λ Is accepted a b c cause one two clean failed. laws.batch_fails_then (Writes Is)
+        (shown S.Store a) (shown S.Store b) (shown S.Store c) cause one.0 two.0.crash (one.1 refl) clean failed };
+
+    ghost fails_so = { λ Is Are a b cause so failed. laws.batch_fails_so Is Are (shown S.Store a)
+        (shown S.Store b) cause so failed };
+
+    fn schema(&mut self, alloc: Global, table: &str) -> Result<Option<Schema>, StoreError> {
+        let store = &mut self.store;
+        cs_store_tables::find_schema(&mut store.conn, &mut store.known, alloc, table)
+    }
+
+    fn get(&mut self, alloc: Global, table: &str, key: &Key) -> Result<Option<Row>, StoreError> {
+        let store = &mut self.store;
+        cs_store_tables::find_row(&mut store.conn, &mut store.known, alloc, table, key)
+    }
+
+    fn put(&mut self, alloc: Global, table: &str, key: &Key, row: &Row) -> Result<(), StoreError> {
+        let store = &mut self.store;
+        cs_store_tables::put_row(&mut store.conn, &mut store.known, alloc, table, key, row)
+    }
+
+    fn remove(&mut self, _alloc: Global, table: &str, key: &Key) -> Result<(), StoreError> {
+        let store = &mut self.store;
+        cs_store_tables::remove_row(&mut store.conn, &mut store.known, table, key)
+    }
+
+    fn list(&mut self, alloc: Global, table: &str) -> Result<Vec<Row>, StoreError> {
+        let store = &mut self.store;
+        cs_store_tables::list_rows(&mut store.conn, &mut store.known, alloc, table)
+    }
+}
