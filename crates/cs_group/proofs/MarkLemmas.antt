@@ -12,7 +12,7 @@ use Rattle.cs_wire.specs.Views.{IsIndexWhere}
 use Rattle.cs_group.specs.Joining.{is_new, if_new, joined_entry, key_marks, left_of, merged, outcome, with_text}
 use Rattle.cs_group.specs.Marks.{AreMet}
 use Rattle.cs_group.proofs.KeyPlaceLemmas.{key_of_same}
-use Rattle.cs_group.proofs.TextLemmas.{Once, not_same, with_text-none, with_text-place, with_text-same}
+use Rattle.cs_group.proofs.TextLemmas.{Once, not_same, with_text-none, with_text-index, with_text-same}
 
 -- ---- which of the second things have the text of one of the first
 
@@ -144,7 +144,7 @@ module _ (own flags : List ℕ) (seconds : List Entry) (entry : Entry) (agree : 
     pub outcome_both : AllPairs (λ d e. key_of own d.change ≢ key_of own e.change) seconds
         → outcome (λ e. key_of flags e.change) (joined_entry flags) seconds entry ≡ left_of entry (merged flags entry second)
     outcome_both apart =
-        ap (joined_entry flags entry) (sym (with_text-place own_key seconds (key entry) place second apart at is ∙ with_text-same own_key key one seconds (key entry)))
+        ap (joined_entry flags entry) (sym (with_text-index own_key seconds (key entry) place second apart at is ∙ with_text-same own_key key one seconds (key entry)))
 
 -- the entry at a place, of what is shown of them
 module _ (shown : List FlaggedEntry) (entries : List Entry) (same : map (λ e. e.entry) shown ≡ entries) where

@@ -44,7 +44,7 @@ pub fn concat(
     ensures joinable { IfErr result (λ f. f ≡ OutOfMemory → AreJoinable first.now second.now) }
 {
     if let Some(index) = first_clash(first, second) {
-        return Err(ConcatFault::Fault(SchemaFault { place }));
+        return Err(ConcatFault::Fault(SchemaFault { place: index }));
     }
     Ok(join_all(alloc, first, second)?)
 }
