@@ -42,6 +42,34 @@ fn fills_a_table(rt: HostRuntime) {
     end(store);
 }
 
+/// Carries out edits in one transaction, without those that are refused.
+fn edit_some<S: Alter + Drop>(
+    alloc: Global,
+    store: Store<S>,
+    edits: &[Edit],
+) -> Result<Store<S>, (StoreError, Store<S>)> {
+    let mut transaction = store.into_transaction()?;
+    for edit in edits {
+        let _ = transaction.edit(alloc, edit);
+    }
+    transaction.commit()
+}
+
+#[test]
+fn passes_over_a_refused_edit(rt: HostRuntime) {
+    let store = store_of(&rt, &[false, false]);
+    let first = Call::Insert("t", &[Value::Int(1), Value::Null]);
+    let other = Call::Insert("t", &[Value::Int(2), Value::Null]);
+    let edits = [edit_of(&rt, first), edit_of(&rt, first), edit_of(&rt, other)];
+    match edit_some(rt.alloc(), store, &edits) {
+        Ok(mut store) => {
+            assert!(rt; rows_of(&rt, &mut store).len() == 2);
+            end(store);
+        }
+        Err((error, _)) => panic!(rt; "refused: {error}"),
+    }
+}
+
 /// Applies a file, with each row in the way replaced where no column refuses it, and returns the report.
 fn replay<S: Alter>(
     alloc: Global,

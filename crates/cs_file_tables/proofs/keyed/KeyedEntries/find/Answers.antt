@@ -24,7 +24,7 @@ pub indices-preserved : goal.indices-preserved
 indices-preserved c =
     let self = c.args.self.now in
     let so = c.indices.invariant in
-    let place = c.indices.end - 1 in
+    let index = c.indices.end - 1 in
     let step : c.indices.end ≡ index + 1 = omega (arith, c.indices-test.true) in
     let chains : c.self.inside.chains ≡ self.chains = ap (λ (k : KeyedFile). k.chains) c.self.view_is in
     let before : IsEnd self.chains (bucket_at self.chains index) index c.before-end.result = rw (← chains) c.before-end.ensures in
