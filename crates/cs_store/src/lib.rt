@@ -7,8 +7,9 @@
 //! assert_eq!(rt; store.rows(alloc, "t")?.len(), 1);
 //! ```
 //!
-//! `store` has what a caller holds, and `batch` the rows of a store inside one transaction. `opening` opens the files
-//! of a database as a store, and `adoption` takes one over in one transaction.
+//! `store` has what a caller holds, and `batch` the rows of a store inside one transaction. A `transaction` owns its
+//! store, and gives it back as it ends. `opening` opens the files of a database as a store, and `adoption` takes one
+//! over in one transaction.
 //!
 //! The names of `cs_rows` are passed on.
 #![tactic(auto)]
