@@ -14,7 +14,7 @@ use Rattle.cs_wire_entries.specs.Changeset.{HeaderData, GroupData, IsFileOf, IsG
 use Rattle.cs_wire_entries.specs.ReadFaults.{HasEntry, Stands}
 use Rattle.cs_wire_entries.proofs.ReadingLemmas.{first_byte, rest_is}
 use Rattle.cs_wire.proofs.GroupsLemmas.{group_bytes-append, same_group}
-use Rattle.cs_file_tables.specs.Tables.{TablesData, ChangesLeft as AreTablesLeft}
+use Rattle.cs_file_tables.specs.Tables.{TablesData, EntriesLeft}
 use Rattle.cs_file_tables.proofs.TablesLemmas.{entry_left, no_entry_left, no_table_left, table_left}
 use Rattle.cs_file_changes.specs.declared.change.ChangeSpan.{ChangeSpan}
 use Rattle.cs_file_changes.specs.Changes.{ChangesLeft, IsInTable, IsStep, ShowsTable, TableChange, changes_of, changes_with, passed_bytes}
@@ -59,7 +59,7 @@ module _ (file : List ℕ) (all : List GroupData) (left : List TableChange) (pla
   pub between_within : place ≤ length file
   between_within = omega (arith, ap length between_file, so.place_is, length-append (file_bytes so.closed) (file_bytes so.others))
 
-  pub between_left : AreTablesLeft (at_place file place []) [] so.others
+  pub between_left : EntriesLeft (at_place file place []) [] so.others
   between_left = record {
     within = between_within;
     each = tt;
@@ -83,7 +83,7 @@ module _ (file : List ℕ) (all : List GroupData) (left : List TableChange) (pla
   pub in_table_within : place ≤ length file
   in_table_within = omega (arith, ap length in_table_file, so.place_is, length-append (passed_bytes so.closed so.header so.passed) (entries_bytes so.more ++ file_bytes so.others))
 
-  pub in_table_left : AreTablesLeft (at_place file place so.header.flags) so.more so.others
+  pub in_table_left : EntriesLeft (at_place file place so.header.flags) so.more so.others
   in_table_left = record {
     within = in_table_within;
     each = AllByRecursion-append_right (IsEntry so.header.flags) so.passed so.more (recursion_from_All (IsEntry so.header.flags) (so.passed ++ so.more) in_table_groups.0.each);
@@ -192,7 +192,7 @@ opened_has_entry file all left place is_file so within header end stands only no
     let same : header ≡ group.header = only group.header _ next.3.header next.4 in
     let rest : drop end file ≡ entries_bytes group.entries ++ file_bytes next.1 =
     rest_is file place end (header_bytes header) _ stands (next.4 ∙ ap (λ (h : HeaderData). header_bytes h ++ (entries_bytes group.entries ++ file_bytes next.1)) (sym same)) in
-    let are : AreTablesLeft (at_place file end group.header.flags) group.entries next.1 = record {
+    let are : EntriesLeft (at_place file end group.header.flags) group.entries next.1 = record {
       within = stands.within;
       each = recursion_from_All (IsEntry group.header.flags) group.entries next.3.each;
       are_groups = next.5;
