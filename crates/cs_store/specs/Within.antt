@@ -5,9 +5,9 @@ use Rattle.cs_value.specs.State as tables
 use Rattle.cs_store_records.specs.Records.{IsUndone}
 use Rattle.cs_store_tables.specs.Store.{IsInside, KeepsStore, tables_in}
 
--- A call is accepted, and `Makes` holds of the tables that the transaction shows then. Or it is refused: the transaction
--- shows what it showed before, or it has ended, and the store is as it was committed last. Nothing is committed, and
--- each mark of a transaction that is still open stays.
+-- If the disk has returned what was written: a call is accepted, the transaction is open, and `Makes` holds of its
+-- tables. Or it is refused: the transaction shows what it showed before, or it has ended, and the store is as it was
+-- committed last. Nothing is committed. A transaction that is still open has the marks that it had.
 pub record Within {X E : Type 0} (Makes : tables.State → Type 0) (old new : State) (result : Result X E) : Type 0 where
   pub kept : KeepsStore old new
   pub made : HasCleanDisk new → OnOk result (IsInside new × Makes (tables_in new.now))

@@ -21,10 +21,12 @@ use sqlite::{Alter, Connection};
 use std::alloc::Global;
 use std::marker::Model;
 
-/// A transaction that owns its store: reads show what it wrote, and nothing lasts before [`commit`](Transaction::commit).
+/// A transaction that owns its store. Reads show what it wrote, and nothing lasts before
+/// [`commit`](Transaction::commit).
 ///
-/// Dropping it closes the store as it was when the transaction began. [`roll_back`](Transaction::roll_back) gives the
-/// store back so.
+/// A failure of the disk or of memory may end it. Then reads show the store as it was when the transaction began, and
+/// each edit, mark and commit is refused. Dropping it drops the store too, and what was written is lost;
+/// [`roll_back`](Transaction::roll_back) gives the store back.
 #[derive(Drop)]
 pub struct Transaction<S: Alter> {
     pub(crate) store: Store<S>,
@@ -41,7 +43,8 @@ impl<S: Alter> Model for Transaction<S> {
 }
 
 impl<S: Alter + Drop> Store<S> {
-    /// Begins a transaction that owns the store.
+    /// Begins a transaction that owns the store. A crash leaves no more than it could before, and once the transaction
+    /// has begun, the tables that the store shows and nothing else.
     ///
     /// # Errors
     ///
@@ -70,15 +73,15 @@ impl<S: Alter + Drop> Store<S> {
 }
 
 impl<S: Alter + Drop> Transaction<S> {
-    /// Commits what was written.
+    /// Commits what was written. All but the records is as it was committed last.
     ///
     /// A crash leaves the tables as when the transaction began, or as it has them; only these once the call is done,
     /// and only those once it is refused and the store is still open.
     ///
     /// # Errors
     ///
-    /// They come with the store, which is as when the transaction began. `StoreFault` if the database refuses, and
-    /// `NoMemory` if out of memory.
+    /// They come with the store, which is as when the transaction began. `StoreFault` if the transaction has ended or
+    /// the database refuses, and `NoMemory` if out of memory.
     pub fn commit(self) -> Result<Store<S>, (StoreError, Store<S>)>
         ensures committed { IfOk result (λ s. HasCleanDisk (state S.Store s)
             → Ends (state S.Store self) (state S.Store s)) }
@@ -106,7 +109,8 @@ impl<S: Alter + Drop> Transaction<S> {
         }
     }
 
-    /// Has no effect. Its contract says that an open transaction shows tables, and all else as it was committed.
+    /// Has no effect. Its contract says that a transaction whose connection is open shows the tables of a state, and
+    /// all but the records as it was committed last.
     pub fn store_law(&self)
         ensures { HasCleanDisk (state S.Store self.now) → IsTrue (state S.Store self.now).is_open
             → HoldsState (state S.Store self.now).now
@@ -121,7 +125,7 @@ impl<S: Alter + Drop> Transaction<S> {
     /// # Errors
     ///
     /// `StoreFault` if the transaction has ended or the database refuses, and `NoMemory` if out of memory. The
-    /// transaction has ended then, and the store is as it was when it began.
+    /// transaction has ended then, and the store is as it was when the transaction began.
     pub fn mark(&mut self) -> Result<(), StoreError>
         ensures marked { HasCleanDisk (state S.Store self.new) → OnOk result
             (IsTrue (state S.Store self.old).in_transaction × Shows (state S.Store self.old) (state S.Store self.new)
@@ -144,12 +148,12 @@ impl<S: Alter + Drop> Transaction<S> {
         }
     }
 
-    /// Drops the newest mark. What was written since stays.
+    /// Drops the newest mark, which must be there. What was written since stays.
     ///
     /// # Errors
     ///
     /// `StoreFault` if the database refuses, and `NoMemory` if out of memory. The transaction has ended then, and the
-    /// store is as it was when it began.
+    /// store is as it was when the transaction began.
     pub fn release(&mut self) -> Result<(), StoreError>
         requires { HasCleanDisk (state S.Store self.old) → HasMark (state S.Store self.old) }
         ensures released { (before : List Savepoint) (db : Database) → IsMarked before db (state S.Store self.old)
@@ -173,8 +177,8 @@ impl<S: Alter + Drop> Transaction<S> {
         }
     }
 
-    /// Goes back to the newest mark, and drops it. If that fails, the transaction ends, and the store is as it was when
-    /// it began. It does nothing where it has ended.
+    /// Goes back to the newest mark, which must be there if the transaction is open, and drops it. Or the transaction
+    /// ends, and the store is as it was when the transaction began. The answer does not say which.
     pub fn go_back(&mut self)
         requires { HasCleanDisk (state S.Store self.old) → IsTrue (state S.Store self.old).in_transaction
             → (before : List Savepoint) × (db : Database) × HoldsState db
@@ -211,8 +215,9 @@ impl<S: Alter + Drop> Transaction<S> {
     ///
     /// # Errors
     ///
-    /// Those of [`edit_in`], and `StoreFault` if the transaction has ended. It shows what it showed before, or has ended
-    /// then, if the disk failed or memory was refused.
+    /// Those of [`edit_in`]. An edit is refused if the transaction has ended. After a refusal the transaction shows
+    /// what it showed before, or it has ended, and the store is as it was when the transaction began. The error does
+    /// not say which.
     pub fn edit(&mut self, alloc: Global, edit: &Edit) -> Result<Vec<Written>, StoreError>
         ensures edited { HasCleanDisk (state S.Store self.new)
             → IfOk result (λ w. edited (tables_in (state S.Store self.old).now) edit.now
