@@ -1,15 +1,22 @@
 //! Transactions that own their store.
-ghost use Rattle.std.specs.Prelude.{◌≡◌, ◌⊎◌, true, false, List, Ok, Err, IsTrue, OnOk, OnErr, IfOk, IfErr, map as map_list};
+ghost use Rattle.std.specs.Prelude.{◌≡◌, ◌⊎◌, true, false, List, None, Ok, Err, IsTrue, OnOk, OnErr, IfOk, IfErr};
+ghost use Rattle.std.specs.Prelude.{IfSome, map as map_list, string_bytes};
+ghost use Rattle.std.specs.FinMap as map;
 ghost use Rattle.sqlite.specs.Effect.{Database};
 ghost use Rattle.sqlite.specs.State.{HasCleanDisk, Savepoint, Shows};
 ghost use Rattle.sqlite.specs.Held.{state};
-ghost use Rattle.cs_rows.specs.Faults.{IsCaused, IsResource, IsEditRefusal};
+ghost use Rattle.cs_value.specs.State.{schema_at, row_at, rows_at};
+ghost use Rattle.cs_rows.specs.declared.fault.StoreError.TheVariants.{NoTable as NoSuchTable};
+ghost use Rattle.cs_rows.specs.Faults.{IsCaused, IsResource, IsReadRefusal, IsEditRefusal};
+ghost use Rattle.cs_rows.specs.Rows.{IsDeclared, Fits};
 ghost use Rattle.cs_rows.specs.Editing.{EditsInto, IsWriteOf, edited, written_of};
 ghost use Rattle.cs_store_records.specs.Marks.{HasMark, IsMarked};
 ghost use Rattle.cs_store_records.specs.Records.{IsUndone, KeepsContent, KeepsCrash, KeepsOthers};
 ghost use Rattle.cs_store_tables.specs.Crash.{IsAtomic, LeavesOnly};
-ghost use Rattle.cs_store_tables.specs.Failing.{BatchFails, BeginFails, CommitFails, MarkFails, ReleaseFails, Writes};
-ghost use Rattle.cs_store_tables.specs.Store.{Begins, Ends, HoldsState, IsInside, tables_in};
+ghost use Rattle.cs_store_tables.specs.Failing.{BatchFails, BeginFails, CommitFails, MarkFails};
+ghost use Rattle.cs_store_tables.specs.Failing.{ReadFails, ReleaseFails, Writes};
+ghost use Rattle.cs_store_tables.specs.Store.{Begins, Ends, HoldsState, IsInside, KeepsStore, RefusesShut};
+ghost use Rattle.cs_store_tables.specs.Store.{tables_in};
 ghost use Rattle.cs_store.specs.Within.{Within};
 
 use crate::store::Store;
@@ -207,6 +214,102 @@ impl<S: Alter + Drop> Transaction<S> {
         store.known = None;
         transactions::roll_back(&mut store.conn);
         store
+    }
+}
+
+impl<S: Alter> Transaction<S> {
+    /// Returns the names of the tables that the transaction shows, in the order of their bytes.
+    ///
+    /// # Errors
+    ///
+    /// `StoreFault` if the database refuses, and `NoMemory` if out of memory. `DamagedStore` if the disk does not
+    /// return what was written.
+    pub fn tables(&mut self, alloc: Global) -> Result<Vec<String>, StoreError>
+        ensures listed { HasCleanDisk (state S.Store self.new) → IfOk result (λ names. map_list string_bytes names.items
+            ≡ map.keys (tables_in (state S.Store self.old).now)) }
+        ensures same { HasCleanDisk (state S.Store self.new) → OnOk result ((state S.Store self.new).now
+            ≡ (state S.Store self.old).now) }
+        ensures refused { HasCleanDisk (state S.Store self.new) → IfErr result IsResource }
+        ensures shut { HasCleanDisk (state S.Store self.new)
+            → RefusesShut (state S.Store self.old) IsResource result }
+        ensures caused { HasCleanDisk (state S.Store self.new)
+            → IfErr result (IsCaused (ReadFails (state S.Store self.old) (state S.Store self.new))) }
+        ensures named { IfErr result IsReadRefusal }
+        ensures kept { KeepsStore (state S.Store self.old) (state S.Store self.new) }
+    {
+        self.store.tables(alloc)
+    }
+
+    /// Returns the schema of a table, or None if no table has the name.
+    ///
+    /// # Errors
+    ///
+    /// Those of [`tables`](Transaction::tables).
+    pub fn schema(&mut self, alloc: Global, name: &str) -> Result<Option<Schema>, StoreError>
+        ensures found { HasCleanDisk (state S.Store self.new)
+            → IfOk result (λ o. o ≡ schema_at (tables_in (state S.Store self.old).now) name.now) }
+        ensures same { HasCleanDisk (state S.Store self.new) → OnOk result ((state S.Store self.new).now
+            ≡ (state S.Store self.old).now) }
+        ensures refused { HasCleanDisk (state S.Store self.new) → IfErr result IsResource }
+        ensures shut { HasCleanDisk (state S.Store self.new)
+            → RefusesShut (state S.Store self.old) IsResource result }
+        ensures caused { HasCleanDisk (state S.Store self.new)
+            → IfErr result (IsCaused (ReadFails (state S.Store self.old) (state S.Store self.new))) }
+        ensures named { IfErr result IsReadRefusal }
+        ensures kept { KeepsStore (state S.Store self.old) (state S.Store self.new) }
+    {
+        self.store.schema(alloc, name)
+    }
+
+    /// Returns the rows of a table, in the order of the bytes of their keys.
+    ///
+    /// # Errors
+    ///
+    /// `NoTable` if no table has the name, and those of [`tables`](Transaction::tables).
+    pub fn rows(&mut self, alloc: Global, name: &str) -> Result<Vec<Row>, StoreError>
+        ensures listed { HasCleanDisk (state S.Store self.new)
+            → IfOk result (λ rows. rows.items
+            ≡ map.values (rows_at (tables_in (state S.Store self.old).now) name.now)) }
+        ensures declared { HasCleanDisk (state S.Store self.new)
+            → OnOk result (IsDeclared (tables_in (state S.Store self.old).now) name.now) }
+        ensures same { HasCleanDisk (state S.Store self.new) → OnOk result ((state S.Store self.new).now
+            ≡ (state S.Store self.old).now) }
+        ensures refused { HasCleanDisk (state S.Store self.new) → IfErr result (λ e. ((e ≡ NoSuchTable)
+            × (schema_at (tables_in (state S.Store self.old).now) name.now ≡ None)) ⊎ IsResource e) }
+        ensures shut { HasCleanDisk (state S.Store self.new)
+            → RefusesShut (state S.Store self.old) IsResource result }
+        ensures caused { HasCleanDisk (state S.Store self.new)
+            → IfErr result (IsCaused (ReadFails (state S.Store self.old) (state S.Store self.new))) }
+        ensures named { IfErr result (λ e. (e ≡ NoSuchTable) ⊎ IsReadRefusal e) }
+        ensures kept { KeepsStore (state S.Store self.old) (state S.Store self.new) }
+    {
+        self.store.rows(alloc, name)
+    }
+
+    /// Returns the row of a table under a key, or None if no row has the key.
+    ///
+    /// # Errors
+    ///
+    /// `NoTable` if no table has the name, and those of [`tables`](Transaction::tables).
+    pub fn get(&mut self, alloc: Global, name: &str, key: &Key) -> Result<Option<Row>, StoreError>
+        ensures found { HasCleanDisk (state S.Store self.new)
+            → IfOk result (λ o. o ≡ row_at (tables_in (state S.Store self.old).now) name.now key.now) }
+        ensures fits { HasCleanDisk (state S.Store self.new)
+            → IfOk result (λ o. IfSome o (Fits (tables_in (state S.Store self.old).now) name.now key.now)) }
+        ensures declared { HasCleanDisk (state S.Store self.new)
+            → OnOk result (IsDeclared (tables_in (state S.Store self.old).now) name.now) }
+        ensures same { HasCleanDisk (state S.Store self.new) → OnOk result ((state S.Store self.new).now
+            ≡ (state S.Store self.old).now) }
+        ensures refused { HasCleanDisk (state S.Store self.new) → IfErr result (λ e. ((e ≡ NoSuchTable)
+            × (schema_at (tables_in (state S.Store self.old).now) name.now ≡ None)) ⊎ IsResource e) }
+        ensures shut { HasCleanDisk (state S.Store self.new)
+            → RefusesShut (state S.Store self.old) IsResource result }
+        ensures caused { HasCleanDisk (state S.Store self.new)
+            → IfErr result (IsCaused (ReadFails (state S.Store self.old) (state S.Store self.new))) }
+        ensures named { IfErr result (λ e. (e ≡ NoSuchTable) ⊎ IsReadRefusal e) }
+        ensures kept { KeepsStore (state S.Store self.old) (state S.Store self.new) }
+    {
+        self.store.get(alloc, name, key)
     }
 }
 
