@@ -29,14 +29,14 @@ use Rattle.cs_session.specs.Recording.{Records, RefusesEdit, table_of}
 use Rattle.cs_session.proofs.NotesLemmas.{only_writes, tells_formers, recorded_are}
 use Rattle.cs_session.proofs.FirstLemmas.{rewound_recorded}
 
--- the tables stay, and what is reported of the writes, all of one table, says which rows stood there
-pub record Tallies (old : State) (name : List ℕ) (done : Edited) : Type 0 where
+-- the tables stay, and what is told of the writes, all of one table, says which rows stood there
+pub record Tells (old : State) (name : List ℕ) (done : Edited) : Type 0 where
   pub of_table : AllByRecursion (λ w. w.table ≡ name) done.written
   pub schemas : (table : List ℕ) → schema_at done.state table ≡ schema_at old table
   pub tells : TellsFormer old done.state done.written
 
 abbrev pub IfDone : State → List ℕ → Result Edited StoreError → Type 0
-IfDone old name (Ok done) = Tallies old name done
+IfDone old name (Ok done) = Tells old name done
 IfDone old name (Err e) = Unit {0}
 
 if_unless : (old : State) (name : List ℕ) (refusal : Option StoreError) (next : Result Edited StoreError) → IfDone old name next → IfDone old name (unless refusal next)
@@ -45,12 +45,12 @@ if_unless old name (Some e) next h = tt
 
 module _ (state : State) (name : List ℕ) (found : TableData) (is : get state name ≡ Some found) where
   -- one write
-  one : (key : List ℕ) (row : Option (List OwnedValue)) → Tallies state name (record { state = with_result state name key row; written = written_at state name key ∷ [] })
+  one : (key : List ℕ) (row : Option (List OwnedValue)) → Tells state name (record { state = with_result state name key row; written = written_at state name key ∷ [] })
   one key row = record {
     of_table = (refl, tt);
     schemas = result_schemas state name found key row is;
     tells = record {
-      reported = All-from_recursion (λ (w : WrittenData). row_at state w.table w.key ≡ w.former) (written_at state name key ∷ []) (refl, tt);
+      told = All-from_recursion (λ (w : WrittenData). row_at state w.table w.key ≡ w.former) (written_at state name key ∷ []) (refl, tt);
       others = λ table q apart. result_elsewhere state name found key row is table q
           (recursion_from_All (λ (w : WrittenData). ¬ ((w.table ≡ table) × (w.key ≡ q))) (written_at state name key ∷ []) apart).0;
     };
@@ -58,7 +58,7 @@ module _ (state : State) (name : List ℕ) (found : TableData) (is : get state n
 
   -- a row that gets another key
   two : (key next : List ℕ) (row : List OwnedValue)
-      → Tallies state name (record { state = with_row (without_row state name key) name next row; written = written_at state name key ∷ written_at state name next ∷ [] })
+      → Tells state name (record { state = with_row (without_row state name key) name next row; written = written_at state name key ∷ written_at state name next ∷ [] })
   two key next row =
       let mid = without_row state name key in
       let mid_found = table_of_schema (get mid name) found.schema (result_schemas state name found key None is name ∙ ap (option_map (λ (t : TableData). t.schema)) is) in
@@ -66,7 +66,7 @@ module _ (state : State) (name : List ℕ) (found : TableData) (is : get state n
         of_table = (refl, (refl, tt));
         schemas = λ table. result_schemas mid name mid_found.0 next (Some row) mid_found.1 table ∙ result_schemas state name found key None is table;
         tells = record {
-          reported = All-from_recursion (λ (w : WrittenData). row_at state w.table w.key ≡ w.former) (written_at state name key ∷ written_at state name next ∷ []) (refl, (refl, tt));
+          told = All-from_recursion (λ (w : WrittenData). row_at state w.table w.key ≡ w.former) (written_at state name key ∷ written_at state name next ∷ []) (refl, (refl, tt));
           others = λ table q apart.
               let both = recursion_from_All (λ (w : WrittenData). ¬ ((w.table ≡ table) × (w.key ≡ q))) (written_at state name key ∷ written_at state name next ∷ []) apart in
               result_elsewhere mid name mid_found.0 next (Some row) mid_found.1 table q both.1.0 ∙ result_elsewhere state name found key None is table q both.0;
@@ -114,15 +114,15 @@ edited_tells state (Delete name key) = in_found state (string_bytes name) (get s
 -- so the former rows could stand in the tables, where the table that is edited is there as it was attached
 pub edited_formers : (state : State) (edit : Edit) (done : Edited) → edited state edit ≡ Ok done → IsState state → (notes : Notes) → HasNamed state (table_of edit) notes → AreFormers notes done.written
 edited_formers state edit done is is_state notes has =
-    let tells : Tallies state (table_of edit) done = subst (IfDone state (table_of edit)) is (edited_tells state edit) in
+    let tells : Tells state (table_of edit) done = subst (IfDone state (table_of edit)) is (edited_tells state edit) in
     tells_formers state is_state done.state done.written tells.tells notes (each tells notes (recursion_from_All (λ (t : AttachedTable). t.name ≡ table_of edit → HasAttached state t) notes has))
   where
-    at : Tallies state (table_of edit) done → (table : AttachedTable) → (table.name ≡ table_of edit → HasAttached state table) → (b : Bool) → bytes_eq (table_of edit) table.name ≡ b
+    at : Tells state (table_of edit) done → (table : AttachedTable) → (table.name ≡ table_of edit → HasAttached state table) → (b : Bool) → bytes_eq (table_of edit) table.name ≡ b
         → HasAttached state table ⊎ (writes_of table.name done.written ≡ [])
     at tells table has true same = inl (has (sym (same_text (table_of edit) table.name (sym same))))
     at tells table has false other = inr (only_writes (table_of edit) table.name done.written tells.of_table other)
 
-    each : Tallies state (table_of edit) done → (ts : Notes) → AllByRecursion (λ t. t.name ≡ table_of edit → HasAttached state t) ts
+    each : Tells state (table_of edit) done → (ts : Notes) → AllByRecursion (λ t. t.name ≡ table_of edit → HasAttached state t) ts
         → AllByRecursion (λ t. HasAttached state t ⊎ (writes_of t.name done.written ≡ [])) ts
     each tells [] has = tt
     each tells (table ∷ ts) has = (at tells table has.0 (bytes_eq (table_of edit) table.name) refl, each tells ts has.1)
@@ -164,6 +164,6 @@ pub records_rewound : {X E : Type 0} (r : Result X E) (state : State) (edit : Ed
     → OnOk r (rewound after new ≡ rewound notes state)
 records_rewound (Ok x) state edit notes new after records =
     let done : Edited = record { state = new; written = records.written } in
-    let tells : Tallies state (table_of edit) done = subst (IfDone state (table_of edit)) records.edited (edited_tells state edit) in
+    let tells : Tells state (table_of edit) done = subst (IfDone state (table_of edit)) records.edited (edited_tells state edit) in
     ap (λ (ns : Notes). rewound ns new) records.noted ∙ rewound_recorded state new records.written tells.tells notes
 records_rewound (Err e) state edit notes new after records = tt

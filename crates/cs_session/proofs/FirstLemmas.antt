@@ -89,16 +89,16 @@ module _ (old : List ℕ → Option (List OwnedValue)) (q : List ℕ) where
   -- a key that was not there is not written, or gets the row that stood there
   noted_new : (firsts : List FirstImage) (written : List WrittenData) → first_at firsts q ≡ None → AllByRecursion (λ w. old w.key ≡ w.former) written
       → Noted firsts written
-  noted_new firsts [] e reported = inl (tt, e)
-  noted_new firsts (w ∷ written) e reported =
-      by_key (bytes_eq w.key q) refl (append_new firsts new q e) (noted_new firsts written e reported.1) (λ none. noted_new (firsts ++ new ∷ []) written none reported.1)
+  noted_new firsts [] e told = inl (tt, e)
+  noted_new firsts (w ∷ written) e told =
+      by_key (bytes_eq w.key q) refl (append_new firsts new q e) (noted_new firsts written e told.1) (λ none. noted_new (firsts ++ new ∷ []) written none told.1)
     where
       new : FirstImage
       new = record { key = w.key; row = w.former }
 
       here_is : w.key ≡ q → first_at (firsts ++ new ∷ []) q ≡ Some w.former → Noted firsts (w ∷ written)
       here_is is stands =
-          let former : w.former ≡ old q = sym reported.0 ∙ ap old is in
+          let former : w.former ≡ old q = sym told.0 ∙ ap old is in
           let none : is_some (first_at firsts w.key) ≡ false = rw is (ap (λ (o : Option (Option (List OwnedValue))). is_some o) e) in
           inr (rw none (noted_kept (firsts ++ new ∷ []) written q (old q) (stands ∙ ap Some former)))
 
@@ -119,13 +119,13 @@ module _ (old : List ℕ → Option (List OwnedValue)) (q : List ℕ) where
 -- ---- the rows from before stay the same
 
 module _ (old new : List ℕ → Option (List OwnedValue)) (firsts : List FirstImage) (written : List WrittenData) (q : List ℕ)
-    (reported : AllByRecursion (λ w. old w.key ≡ w.former) written) (others : AllByRecursion (λ w. ¬ (w.key ≡ q)) written → new q ≡ old q) where
+    (told : AllByRecursion (λ w. old w.key ≡ w.former) written) (others : AllByRecursion (λ w. ¬ (w.key ≡ q)) written → new q ≡ old q) where
   from_new : first_at firsts q ≡ None → Noted old q firsts written → unwrap_or (first_at (noted firsts written) q) (new q) ≡ unwrap_or (first_at firsts q) (old q)
   from_new none (inl (apart, still)) = rw (none, still) (others apart)
   from_new none (inr stands) = rw (none, stands) refl
 
   by_first : (o : Option (Option (List OwnedValue))) → first_at firsts q ≡ o → unwrap_or (first_at (noted firsts written) q) (new q) ≡ unwrap_or (first_at firsts q) (old q)
-  by_first None e = from_new e (noted_new old q firsts written e reported)
+  by_first None e = from_new e (noted_new old q firsts written e told)
   by_first (Some row) e = rw (e, noted_kept firsts written q row e) refl
 
   same_before : unwrap_or (first_at (noted firsts written) q) (new q) ≡ unwrap_or (first_at firsts q) (old q)
@@ -134,12 +134,12 @@ module _ (old new : List ℕ → Option (List OwnedValue)) (firsts : List FirstI
 module _ (old : State) (name : List ℕ) where
   pub told_of : (written : List WrittenData) → AllByRecursion (λ w. row_at old w.table w.key ≡ w.former) written
       → AllByRecursion (λ w. row_at old name w.key ≡ w.former) (writes_of name written)
-  told_of [] reported = tt
-  told_of (w ∷ written) reported = at (bytes_eq w.table name) refl (told_of written reported.1)
+  told_of [] told = tt
+  told_of (w ∷ written) told = at (bytes_eq w.table name) refl (told_of written told.1)
     where
       at : (b : Bool) → bytes_eq w.table name ≡ b → AllByRecursion (λ w. row_at old name w.key ≡ w.former) (writes_of name written)
           → AllByRecursion (λ w. row_at old name w.key ≡ w.former) (cond b (w ∷ writes_of name written) (writes_of name written))
-      at true same rest = (ap (λ (t : List ℕ). row_at old t w.key) (sym (same_text w.table name (sym same))) ∙ reported.0, rest)
+      at true same rest = (ap (λ (t : List ℕ). row_at old t w.key) (sym (same_text w.table name (sym same))) ∙ told.0, rest)
       at false same rest = rest
 
   apart_of : (written : List WrittenData) (q : List ℕ) → AllByRecursion (λ w. ¬ (w.key ≡ q)) (writes_of name written)
@@ -157,11 +157,11 @@ module _ (old new : State) (written : List WrittenData) (tells : TellsFormer old
   same_rows : (table : AttachedTable) → put_all_back (noted table.firsts (writes_of table.name written)) (rows_at new table.name) ≡ rewound_rows old table
   same_rows table = same_maps _ _ (λ q. put_all_at (noted table.firsts (writes_of table.name written)) (rows_at new table.name) q
       ∙ same_before (row_at old table.name) (row_at new table.name) table.firsts (writes_of table.name written) q
-      (told_of old table.name written (recursion_from_All (λ (w : WrittenData). row_at old w.table w.key ≡ w.former) written tells.reported))
+      (told_of old table.name written (recursion_from_All (λ (w : WrittenData). row_at old w.table w.key ≡ w.former) written tells.told))
       (λ apart. tells.others table.name q (All-from_recursion (λ (w : WrittenData). ¬ ((w.table ≡ table.name) × (w.key ≡ q))) written (apart_of old table.name written q apart)))
       ∙ sym (put_all_at table.firsts (rows_at old table.name) q))
 
-  -- what is reported of writes, and noted, leaves the rows from before as they were
+  -- what is told of writes, and noted, leaves the rows from before as they were
   pub rewound_recorded : (notes : Notes) → rewound (recorded notes written) new ≡ rewound notes old
   rewound_recorded [] = refl
   rewound_recorded (table ∷ notes) = let first = same_rows table in let rest = rewound_recorded notes in cc (first, rest)

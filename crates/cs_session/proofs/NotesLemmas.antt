@@ -99,8 +99,8 @@ module _ (old : State) (is_state : IsState old) where
   former_fits : (table : AttachedTable) → HasAttached old table → (writes : List WrittenData) → AllByRecursion (λ w. row_at old table.name w.key ≡ w.former) writes
       → AllByRecursion (λ w. IfSome w.former (IsRowAt table.schema w.key)) writes
   former_fits table has =
-      AllByRecursion-weaker (λ w. row_at old table.name w.key ≡ w.former) (λ w. IfSome w.former (IsRowAt table.schema w.key)) (λ w reported.
-      subst (λ (o : Option (List OwnedValue)). IfSome o (IsRowAt table.schema w.key)) reported (row_at_fits old table.name table.schema is_state has w.key))
+      AllByRecursion-weaker (λ w. row_at old table.name w.key ≡ w.former) (λ w. IfSome w.former (IsRowAt table.schema w.key)) (λ w told.
+      subst (λ (o : Option (List OwnedValue)). IfSome o (IsRowAt table.schema w.key)) told (row_at_fits old table.name table.schema is_state has w.key))
 
   -- the rows that stood in a state could stand in its tables
   pub tells_formers : (new : State) (written : List WrittenData) → TellsFormer old new written → (notes : Notes)
@@ -110,7 +110,7 @@ module _ (old : State) (is_state : IsState old) where
     where
       at : HasAttached old table ⊎ (writes_of table.name written ≡ []) → HasFormers written table
       at (inl there) = former_fits table there (writes_of table.name written)
-          (told_of old table.name written (recursion_from_All (λ (w : WrittenData). row_at old w.table w.key ≡ w.former) written tells.reported))
+          (told_of old table.name written (recursion_from_All (λ (w : WrittenData). row_at old w.table w.key ≡ w.former) written tells.told))
       at (inr none) = subst (λ (writes : List WrittenData). AllByRecursion (λ w. IfSome w.former (IsRowAt table.schema w.key)) writes) (sym none) tt
 
 -- writes of one table are of no other

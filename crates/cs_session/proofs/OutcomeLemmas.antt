@@ -120,9 +120,9 @@ module _ (law : ChangesetFiles) (state : State) (notes : Notes) (is_state : IsSt
       → (report : Report) (new : State) → Applies chooses noop.Report file Inverse mid report new → Undoes notes state report new
   undoes chooses aborts file is_file mid same report new applies =
       let weaker = applies_weaker chooses AlwaysAborts aborts noop.Report file Inverse mid report new applies in
-      let reported = rw (is_file, same) at weaker in
-      let back = reverts_ok AlwaysAborts law (file_bytes changes) (rewound_state notes state) state new report leads reported in
-      record { attached = has; applied = reported; no_conflict = back.0; none_skipped = skips_none report new reported; back = rw back.1 given_back; rewound = back.1 }
+      let told = rw (is_file, same) at weaker in
+      let back = reverts_ok AlwaysAborts law (file_bytes changes) (rewound_state notes state) state new report leads told in
+      record { attached = has; applied = told; no_conflict = back.0; none_skipped = skips_none report new told; back = rw back.1 given_back; rewound = back.1 }
 
   -- or memory or the database refuses
   pub refuses_undo : (chooses : Handler) → ((k : Conflict) (c : Choice) → chooses k c → AlwaysAborts k c) → (file : List ℕ) → file ≡ file_bytes changes → (mid : State) → mid ≡ state

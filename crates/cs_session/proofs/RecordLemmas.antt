@@ -43,8 +43,8 @@ module _ (chooses : Handler) (noop : Noop) (file : List ℕ) (state : State) (no
 
   module _ (report : Report) (new : State) (applies : Applies chooses noop file Forward state report new) where
     -- what the report tells of the writes says which rows stood there
-    reported : TellsFormer state new (map written_of report.written.items)
-    reported = subst (TellsFormer state new) (sym applies.written) (written_tells noop state applies.changeset applies.choose new applies.applied)
+    told : TellsFormer state new (map written_of report.written.items)
+    told = subst (TellsFormer state new) (sym applies.written) (written_tells noop state applies.changeset applies.choose new applies.applied)
 
     each : (ts : Notes) → AllByRecursion (HasAttached state) ts → AllByRecursion (λ t. HasAttached state t ⊎ (writes_of t.name (map written_of report.written.items) ≡ [])) ts
     each [] has = tt
@@ -52,14 +52,14 @@ module _ (chooses : Handler) (noop : Noop) (file : List ℕ) (state : State) (no
 
     pub applies_formers : IsState state → HasTables state notes → AreFormers notes (map written_of report.written.items)
     applies_formers is_state has =
-        tells_formers state is_state new (map written_of report.written.items) reported notes (each notes (recursion_from_All (HasAttached state) notes has))
+        tells_formers state is_state new (map written_of report.written.items) told notes (each notes (recursion_from_All (HasAttached state) notes has))
 
 -- an apply that is noted leaves the rows from before
 pub applied_rewound : {E : Type 0} (r : Result Report E) (chooses : Handler) (noop : Noop) (file : List ℕ) (state : State) (notes : Notes) (new : State) (after : Notes)
     → IfOk r (λ report. RecordsApply chooses noop file state notes report new after) → OnOk r (rewound after new ≡ rewound notes state)
 applied_rewound (Ok report) chooses noop file state notes new after records =
     ap (λ (ns : Notes). rewound ns new) records.noted
-    ∙ rewound_recorded state new (map written_of report.written.items) (reported chooses noop file state notes report new records.applied) notes
+    ∙ rewound_recorded state new (map written_of report.written.items) (told chooses noop file state notes report new records.applied) notes
 applied_rewound (Err e) chooses noop file state notes new after records = tt
 
 -- an apply that is noted, and meets no conflict and ignores nothing, on a store that was open

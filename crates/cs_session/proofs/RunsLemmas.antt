@@ -32,7 +32,7 @@ use Rattle.cs_session.specs.Runs.{Moment, IsMoment, DeclaresTable, AttachesTable
 use Rattle.cs_session.proofs.FirstLemmas.{put_all_at, rewound_recorded}
 use Rattle.cs_session.proofs.RewoundLemmas.{other_name, rewound_schemas, IsRewound, rewound_here, all_rewound}
 use Rattle.cs_session.proofs.NotesLemmas.{names_stay}
-use Rattle.cs_session.proofs.EditLemmas.{Tallies, IfDone, edited_tells}
+use Rattle.cs_session.proofs.EditLemmas.{Tells, IfDone, edited_tells}
 
 -- ---- the tables of a session
 
@@ -71,7 +71,7 @@ applies_keep m n is step =
 edits_keep : (m n : Moment) → IsMoment m → EditsRow m n → Keeps m n []
 edits_keep m n is step =
     let done : Edited = record { state = n.state; written = step.recorded.written } in
-    let tells : Tallies m.state (table_of step.edit) done = subst (IfDone m.state (table_of step.edit)) step.recorded.edited (edited_tells m.state step.edit) in
+    let tells : Tells m.state (table_of step.edit) done = subst (IfDone m.state (table_of step.edit)) step.recorded.edited (edited_tells m.state step.edit) in
     writes_keep m n is step.recorded.written tells.schemas tells.tells step.recorded.noted
 
 -- ---- a table is attached

@@ -1,4 +1,4 @@
--- When what is reported of writes can be noted.
+-- When what is told of writes can be noted.
 use Rattle.std.specs.Prelude.{◌≡◌, ◌≢◌, ℕ, List, AllPairs, Option, IfSome}
 use Rattle.std.specs.List.{AllByRecursion}
 use Rattle.cs_value.specs.State.{IsRowAt, WrittenData}

@@ -63,7 +63,7 @@ RefusesApply chooses noop file old notes (Store error) = IsStoreFault error
 RefusesApply chooses noop file old notes NoMemory = Unit {0}
 RefusesApply chooses noop file old notes AlreadyAttached = ⊥
 
--- a fault of the changeset, or of what it meets: the store's refusals and want of memory are reported as the session's own
+-- a fault of the changeset, or of what it meets: the store's refusals and want of memory are told as the session's own
 abbrev pub IsOfChangeset : ApplyFault → Type 0
 IsOfChangeset (apply_fault.Store error) = ⊥
 IsOfChangeset apply_fault.NoMemory = ⊥
