@@ -222,13 +222,13 @@ batch_undone old begun new begins begun_as drops undone = record {
         t,
         (λ is_open. (
           record { is_open = is_open; autocommit = last.autocommit; committed = last.committed is_open ∙ sym (last.now is_open) },
-          ap (λ (db : Database). tables_in db) (last.now is_open ∙ first.shown.committed_is ∙ sym first.at_rest) ∙ shows first.shown.was_open,
+          ap (λ (db : Database). tables_in db) (last.now is_open ∙ first.shown.committed_is ∙ sym first.settled) ∙ shows first.shown.was_open,
         )),
         refl,
       );
   others = λ clean t shows.
       let first = begun_as (was_clean begun new drops clean) in
-      spares_kept old new (λ is_open. first.shown.was_open) (λ is_open. (undone clean).now is_open ∙ first.shown.committed_is ∙ sym first.at_rest);
+      spares_kept old new (λ is_open. first.shown.was_open) (λ is_open. (undone clean).now is_open ∙ first.shown.committed_is ∙ sym first.settled);
 }
 
 -- where it is at rest, whatever else is known

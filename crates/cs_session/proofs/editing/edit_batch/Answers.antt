@@ -32,7 +32,7 @@ returns-in_err-batch-clause-transacts g c =
     let keeps : KeepsCrash old new = search rules in
     let kept : HasCleanDisk new → KeepsContent old new = search rules in
     let p = err_from_is_err_and c.from_residual.result c.from_residual.ensures.1 in
-    rw p.1 (unbegun_transacts g.S.Store g.met.S.Store.none_pending g.met.S.Store.stays c.args.store.now c.begin.follows.lender-at-none c.crash_law.ensures _ (EditsInto (tables_in old.now) c.args.edit.now) keeps kept)
+    rw p.1 (unbegun_transacts g.S.Store g.met.S.Store.settled g.met.S.Store.stays c.args.store.now c.begin.follows.lender-at-none c.crash_law.ensures _ (EditsInto (tables_in old.now) c.args.edit.now) keeps kept)
 
 pub returns-in_err-edit_rows-clause-transacts : goal.returns-in_err-edit_rows-clause-transacts
 returns-in_err-edit_rows-clause-transacts g c =
@@ -41,7 +41,7 @@ returns-in_err-edit_rows-clause-transacts g c =
     let mid = state g.S.Store c.edit_rows.new.rows.store.now in
     let same : c.drop-batch.new.self.0 ≡ c.store-in_err-edit_rows-1.given.0 = search rules in
     let p = err_from_is_err_and c.from_residual-in_err-edit_rows.result c.from_residual-in_err-edit_rows.ensures.1 in
-    rw (p.1, ← same) (dropped_transacts g.S.Store g.met.S.Store.none_pending g.met.S.Store.stays c.args.store.now c.drop-batch.new.self.0 c.crash_law.ensures begun mid c.in_ok-batch.ensures.begun c.in_ok-batch.ensures.survives c.edit_rows.ensures.kept.1
+    rw (p.1, ← same) (dropped_transacts g.S.Store g.met.S.Store.settled g.met.S.Store.stays c.args.store.now c.drop-batch.new.self.0 c.crash_law.ensures begun mid c.in_ok-batch.ensures.begun c.in_ok-batch.ensures.survives c.edit_rows.ensures.kept.1
     _ (EditsInto (tables_in old.now) c.args.edit.now) c.drop-batch.ensures.survives c.drop-batch.ensures.undone)
 
 pub returns-in_err-commit-clause-transacts : goal.returns-in_err-commit-clause-transacts
@@ -50,7 +50,7 @@ returns-in_err-commit-clause-transacts g c =
     let mid = state g.S.Store c.edit_rows.new.rows.store.now in
     let same : c.commit.new.self.0 ≡ c.store-2-1.given.0 = search rules in
     let p = err_from_is_err_and c.from_residual-in_err-commit.result c.from_residual-in_err-commit.ensures.1 in
-    rw (p.1, ← same) (uncommitted_transacts g.S.Store g.met.S.Store.none_pending g.met.S.Store.stays c.args.store.now c.commit.new.self.0 c.crash_law.ensures begun mid c.in_ok-batch.ensures.begun c.in_ok-batch.ensures.survives c.edit_rows.ensures.kept.1
+    rw (p.1, ← same) (uncommitted_transacts g.S.Store g.met.S.Store.settled g.met.S.Store.stays c.args.store.now c.commit.new.self.0 c.crash_law.ensures begun mid c.in_ok-batch.ensures.begun c.in_ok-batch.ensures.survives c.edit_rows.ensures.kept.1
     (λ before. EditsInto before c.args.edit.now) (λ clean. let done = c.in_ok-edit_rows.ensures.recorded clean in (done.written, done.edited)) c.commit.ensures.atomic.survives _ c.in_err-commit.ensures.undone)
 
 pub returns-clause-transacts : goal.returns-clause-transacts
@@ -58,7 +58,7 @@ returns-clause-transacts g c =
     let begun = state g.S.Store c.in_ok-batch.batch.store.now in
     let mid = state g.S.Store c.edit_rows.new.rows.store.now in
     let same : c.commit.new.self.0 ≡ c.store-2-1.given.0 = search rules in
-    rw (← same) (committed_transacts g.S.Store g.met.S.Store.none_pending g.met.S.Store.stays c.args.store.now c.commit.new.self.0 c.crash_law.ensures begun mid c.in_ok-batch.ensures.begun c.in_ok-batch.ensures.survives c.edit_rows.ensures.kept.1
+    rw (← same) (committed_transacts g.S.Store g.met.S.Store.settled g.met.S.Store.stays c.args.store.now c.commit.new.self.0 c.crash_law.ensures begun mid c.in_ok-batch.ensures.begun c.in_ok-batch.ensures.survives c.edit_rows.ensures.kept.1
     (λ before. EditsInto before c.args.edit.now) (λ clean. let done = c.in_ok-edit_rows.ensures.recorded clean in (done.written, done.edited)) c.commit.ensures.atomic.survives _ c.in_ok-commit.ensures.committed c.in_ok-commit.ensures.others c.in_ok-commit.ensures.left)
 
 pub returns-clause-recorded : goal.returns-clause-recorded
