@@ -60,7 +60,11 @@ fn passes_over_a_refused_edit(rt: HostRuntime) {
     let store = store_of(&rt, &[false, false]);
     let first = Call::Insert("t", &[Value::Int(1), Value::Null]);
     let other = Call::Insert("t", &[Value::Int(2), Value::Null]);
-    let edits = [edit_of(&rt, first), edit_of(&rt, first), edit_of(&rt, other)];
+    let edits = [
+        edit_of(&rt, first),
+        edit_of(&rt, first),
+        edit_of(&rt, other),
+    ];
     match edit_some(rt.alloc(), store, &edits) {
         Ok(mut store) => {
             assert!(rt; rows_of(&rt, &mut store).len() == 2);
