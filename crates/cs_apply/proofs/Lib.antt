@@ -1,2 +1,3 @@
 pub mod RevertLemmas
 pub mod CrashLemmas
+pub mod TransactionLemmas

@@ -8,14 +8,16 @@
 //! revert(alloc, &mut store, file)?;
 //! ```
 //!
-//! `store` applies a file to the rows of a batch, by `cs_apply_rows`, and commits the batch or drops it. The names of
-//! `cs_apply_rows` are passed on. `CALLING.md`, next to this folder, shows a caller.
+//! `store` applies a file to the rows of a batch, by `cs_apply_rows`, and commits the batch or drops it. `transaction`
+//! applies one in a transaction that goes on. The names of `cs_apply_rows` are passed on. `CALLING.md`, next to this folder, shows a caller.
 #![tactic(auto)]
 
 mod store;
+mod transaction;
 
 pub use cs_apply_rows::{
     ApplyFault, Choice, Conflict, Direction, Kind, Met, Noop, Policy, Report, Summary,
     run_changeset_in, run_in,
 };
 pub use store::{apply, apply_counted, revert};
+pub use transaction::{apply_in_transaction, revert_in_transaction};

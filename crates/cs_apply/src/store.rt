@@ -149,7 +149,7 @@ pub fn revert<S: Alter>(
 }
 
 /// Aborts at each conflict.
-fn abort(_conflict: &Conflict) -> Choice
+pub(crate) fn abort(_conflict: &Conflict) -> Choice
     ensures { result ≡ AbortChoice }
 {
     Choice::Abort

@@ -1,5 +1,5 @@
 -- For which causes a run fails, and of which writes that is.
-use Rattle.std.proofs.Common.{◌≡◌, ℕ, ◌<◌, List, ◌∷◌, ◌++◌, length, length-append, get_or, map, Option, Some, None, Result, Ok, Err, IfErr, IsErrAnd, refl, sym, ap, subst, ◌∙◌, arith}
+use Rattle.std.proofs.Common.{◌≡◌, inl, inr, false, ℕ, ◌<◌, List, ◌∷◌, ◌++◌, length, length-append, get_or, map, Option, Some, None, Result, Ok, Err, IfErr, IsErrAnd, refl, sym, ap, subst, ◌∙◌, arith}
 use Rattle.std.specs.Prelude.{Any}
 use Rattle.std.proofs.lemmas.List.{length-map}
 use Rattle.std.proofs.Math.Seq.{get_or-append_seam}
@@ -19,13 +19,13 @@ use Rattle.cs_rows.proofs.CauseLemmas as rows
 use Rattle.cs_apply_conflicts.specs.Conflicts.{row_after}
 use Rattle.cs_group.specs.Inverse.{inverse_group}
 use Rattle.cs_apply_rows.specs.declared.fault.ApplyFault.{ApplyFault}
-use Rattle.cs_apply_rows.specs.declared.fault.ApplyFault.TheVariants.{Store}
+use Rattle.cs_apply_rows.specs.declared.fault.ApplyFault.TheVariants.{Store, NoMemory}
 use Rattle.cs_apply_rows.specs.declared.running.Direction.{Direction}
 use Rattle.cs_apply_rows.specs.declared.running.Direction.TheVariants.{Forward, Inverse}
 use Rattle.cs_apply_rows.specs.Faults.{fault_of}
-use Rattle.cs_apply_rows.specs.Running.{IsCaused, directed}
+use Rattle.cs_apply_rows.specs.Running.{IsCaused, directed, is_own}
 use Rattle.cs_apply_rows.specs.Run.{directed_entry, directed_group}
-use Rattle.cs_apply_rows.specs.Steps.{IsResultWrite, write_of}
+use Rattle.cs_apply_rows.specs.Steps.{IsResultWrite, IsStoreRefusal, write_of}
 use Rattle.cs_apply_rows.specs.Writes.{IsEntryWrite, IsFileWrite, IsGroupWrite, IsRunWrite}
 use Rattle.cs_apply_rows.proofs.DirectedLemmas.{read_as}
 
@@ -53,6 +53,16 @@ of_rows Fails e h = h
 
 pub rows_caused_on : {X : Type 0} (r : Result X ApplyFault) (One Other : Cause → Type 0) (e : StoreError) → IsErrAnd r (λ f. f ≡ fault_of e) → ((cause : Cause) → One cause → Other cause) → stores.IsCaused One e → IfErr r (IsCaused Other)
 rows_caused_on r One Other e is so h = caused_on r One Other (fault_of e) is so (of_rows One e h)
+
+-- ---- faults of the rows
+
+-- a refusal of the rows is not the run's own
+pub not_own : (fault : ApplyFault) → IsStoreRefusal fault → is_own fault ≡ false
+not_own fault (inl (inl memory)) = subst (λ (f : ApplyFault). is_own f ≡ false) (sym memory) refl
+not_own (Store e) (inl (inr h)) = refl
+not_own NoMemory refused = refl
+not_own fault (inl (inr h)) = absurd h
+not_own fault (inr damaged) = subst (λ (f : ApplyFault). is_own f ≡ false) (sym damaged) refl
 
 -- ---- writes
 

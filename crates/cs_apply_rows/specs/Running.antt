@@ -1,6 +1,6 @@
 -- What a run over rows does with a file: the interface of SQLite's session extension, under "sqlite3changeset_apply".
 -- The order of refusals, and that a table may not be wider, are this project's own.
-use Rattle.std.specs.Prelude.{◌≡◌, ◌⊎◌, ◌∷◌, ◌++◌, ℕ, true, false, List, length, map, All, string_bytes}
+use Rattle.std.specs.Prelude.{◌≡◌, ◌⊎◌, ◌∷◌, ◌++◌, ℕ, Bool, true, false, List, Result, Ok, Err, length, map, All, string_bytes}
 use Rattle.cs_value.specs.State.{State, WrittenData, IsState}
 use Rattle.cs_wire.specs.Changeset.{GroupData, IsChangeset, file_bytes}
 use Rattle.cs_wire.specs.ReadFaults.{ReadFails}
@@ -148,6 +148,17 @@ IsResource fault = (fault ≡ NoMemory) ⊎ IsOfStore IsStoreFault fault
 abbrev pub IsNamed : ApplyFault → Type 0
 IsNamed (Store error) = (error ≡ DamagedStore) ⊎ IsStoreFault error
 IsNamed fault = Unit {0}
+
+-- The fault is not one of the rows: the run refuses the file, or ends at a conflict.
+abbrev pub is_own : ApplyFault → Bool
+is_own (Store error) = false
+is_own NoMemory = false
+is_own _ = true
+
+-- The rows have answered each call of a run: it is accepted, or ends by itself.
+abbrev pub is_answered : {X : Type 0} → Result X ApplyFault → Bool
+is_answered (Ok x) = true
+is_answered (Err fault) = is_own fault
 
 -- it is no fault of reading
 abbrev pub IsNoReadFault : ApplyFault → Type 0

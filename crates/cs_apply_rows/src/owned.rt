@@ -6,6 +6,7 @@ ghost use Rattle.cs_value.specs.State.{State};
 ghost use Rattle.cs_wire.specs.Changeset.{GroupData, file_bytes};
 ghost use Rattle.cs_apply_conflicts.specs.declared.conflict.Noop.TheVariants.{Report as Reported};
 ghost use Rattle.cs_apply_rows.specs.Running.{Applies, Refuses, IsCaused, IsNamed, IsNoReadFault, IsResource, directed as directed_groups};
+ghost use Rattle.cs_apply_rows.specs.Running.{is_answered};
 ghost use Rattle.cs_apply_rows.specs.Steps.{IsStoreRefusal};
 ghost use Rattle.cs_apply_rows.specs.Tally.{is_listed};
 ghost use Rattle.cs_apply_rows.specs.Run.{IsBehind, directed_group};
@@ -46,7 +47,7 @@ pub fn run_changeset_in<B: Rows, H: Fn(&Conflict) -> Choice>(
         (B.fails (IsRunWrite (directed_groups direction changeset.now)) rows.old rows.new)) }
     ensures was_honest { B.is_honest rows.new → B.is_honest rows.old }
     ensures kept { B.keeps (IsRunWrite (directed_groups direction changeset.now))
-        (is_ok result) rows.old rows.new }
+        (is_answered result) rows.old rows.new }
 {
     let written = Writings::Listed(Vec::new(alloc));
     let mut run = Run::new(alloc, Noop::Report, written)?;

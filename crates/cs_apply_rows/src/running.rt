@@ -8,7 +8,7 @@ ghost use Rattle.cs_wire.specs.Entry.{IsEntry};
 ghost use Rattle.cs_wire.specs.Changeset.{GroupData, IsGroup};
 ghost use Rattle.cs_wire.specs.Headers.{header_of};
 ghost use Rattle.cs_file_tables.specs.Tables.{EntriesLeft};
-ghost use Rattle.cs_apply_rows.specs.Running.{Applies, AppliesTallied, Refuses, IsCaused, IsNamed, IsResource};
+ghost use Rattle.cs_apply_rows.specs.Running.{Applies, AppliesTallied, Refuses, IsCaused, IsNamed, IsResource, is_answered};
 ghost use Rattle.cs_apply_rows.specs.Steps.{IsStoreRefusal};
 ghost use Rattle.cs_apply_rows.specs.Tally.{Tallies, is_listed};
 ghost use Rattle.cs_apply_rows.specs.Run.{IsBehind, directed_entry, directed_group, group_of};
@@ -72,7 +72,7 @@ pub fn run_in<B: Rows, H: Fn(&Conflict) -> Choice>(
     ensures caused { B.is_honest rows.new → IfErr result (IsCaused
         (B.fails (IsFileWrite direction file.now) rows.old rows.new)) }
     ensures was_honest { B.is_honest rows.new → B.is_honest rows.old }
-    ensures kept { B.keeps (IsFileWrite direction file.now) (is_ok result) rows.old rows.new }
+    ensures kept { B.keeps (IsFileWrite direction file.now) (is_answered result) rows.old rows.new }
     ensures leaves { (held : State) → B.leaves_only rows.old held → B.leaves_only rows.new held }
 {
     let written = Writings::Listed(Vec::new(alloc));
@@ -107,7 +107,7 @@ pub fn tally_in<B: Rows, H: Fn(&Conflict) -> Choice>(
     ensures caused { B.is_honest rows.new → IfErr result (IsCaused
         (B.fails (IsFileWrite direction file.now) rows.old rows.new)) }
     ensures was_honest { B.is_honest rows.new → B.is_honest rows.old }
-    ensures kept { B.keeps (IsFileWrite direction file.now) (is_ok result) rows.old rows.new }
+    ensures kept { B.keeps (IsFileWrite direction file.now) (is_answered result) rows.old rows.new }
     ensures leaves { (held : State) → B.leaves_only rows.old held → B.leaves_only rows.new held }
 {
     let mut tables = Tables::read(alloc, file)?;

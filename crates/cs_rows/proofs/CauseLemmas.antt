@@ -1,11 +1,11 @@
 -- For which causes a call fails, and of which writes that is.
-use Rattle.std.proofs.Common.{◌≡◌, inr, ℕ, List, Result, Ok, Err, IfErr, IsErrAnd, refl, sym, subst, ◌∙◌}
+use Rattle.std.proofs.Common.{◌≡◌, ◌⊎◌, inl, inr, true, false, ℕ, List, Result, Ok, Err, IfErr, IsErrAnd, refl, sym, subst, ◌∙◌}
 use Rattle.cs_value.specs.declared.value.OwnedValue.{OwnedValue}
 use Rattle.cs_value.specs.State.{State, with_row}
 use Rattle.cs_rows.specs.declared.fault.Cause.{Cause}
 use Rattle.cs_rows.specs.declared.fault.StoreError.{StoreError}
-use Rattle.cs_rows.specs.declared.fault.StoreError.TheVariants.{StoreFault}
-use Rattle.cs_rows.specs.Faults.{IsCaused}
+use Rattle.cs_rows.specs.declared.fault.StoreError.TheVariants.{DamagedStore, NoMemory, StoreFault}
+use Rattle.cs_rows.specs.Faults.{IsCaused, IsReadRefusal, is_own, refused_for}
 use Rattle.cs_rows.specs.Rows.{Fits, Write, puts_row, removes_row}
 use Rattle.cs_rows.specs.Editing.{IsPutOf, IsRemovalOf, IsClearingOf, IsUpdateOf}
 
@@ -38,3 +38,16 @@ removal_of old now table key held write same is = subst (IsRemovalOf old table k
 pub clearing_of : (old now : State) (table key next : List ℕ) (row : List OwnedValue) (held : State) (write : Write) → now ≡ with_row old table next row → (held ≡ now) × (write ≡ removes_row table key)
     → IsUpdateOf old table key row held write
 clearing_of old now table key next row held write same is = inr (subst (IsClearingOf old table key row held) (sym is.1) (refl, refl, next, is.0 ∙ same))
+
+-- a refusal of the rows is not the edit's own
+pub not_own : (e : StoreError) → IsReadRefusal e → is_own e ≡ false
+not_own e (inl damaged) = subst (λ (f : StoreError). is_own f ≡ false) (sym damaged) refl
+not_own e (inr (inl memory)) = subst (λ (f : StoreError). is_own f ≡ false) (sym memory) refl
+not_own e (inr (inr (refused_for cause))) = refl
+
+-- each error is one or the other
+pub own_or_not : (e : StoreError) → IsReadRefusal e ⊎ (is_own e ≡ true)
+own_or_not DamagedStore = inl (inl refl)
+own_or_not NoMemory = inl (inr (inl refl))
+own_or_not (StoreFault cause) = inl (inr (inr (refused_for cause)))
+own_or_not e = inr refl

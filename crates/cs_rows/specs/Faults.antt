@@ -1,5 +1,5 @@
 -- What stores refuse with: this project's own numbers and names, and the result codes of SQLite.
-use Rattle.std.specs.Prelude.{◌≡◌, ◌⊎◌, ℕ, List, codes}
+use Rattle.std.specs.Prelude.{◌≡◌, ◌⊎◌, ℕ, List, Bool, true, false, Result, Ok, Err, codes}
 use Rattle.cs_rows.specs.declared.fault.Cause.{Cause}
 use Rattle.cs_rows.specs.declared.fault.StoreError.{StoreError}
 use Rattle.cs_rows.specs.declared.fault.StoreError.TheVariants.{TableExists, NoTable, BadSchema, KeyTaken, NoRow}
@@ -59,3 +59,15 @@ IsReadRefusal e = (e ≡ DamagedStore) ⊎ IsResource e
 -- what an edit of a row may refuse with, whatever the disk returns
 abbrev pub IsEditRefusal : StoreError → Type 0
 IsEditRefusal e = (e ≡ NoTable) ⊎ (e ≡ RowWidth) ⊎ (e ≡ NullInKey) ⊎ (e ≡ NotNull) ⊎ (e ≡ NoRow) ⊎ (e ≡ KeyTaken) ⊎ IsReadRefusal e
+
+-- The error is not one of the rows: an edit refuses what was asked.
+abbrev pub is_own : StoreError → Bool
+is_own DamagedStore = false
+is_own (StoreFault cause) = false
+is_own NoMemory = false
+is_own _ = true
+
+-- The rows have answered each call of an edit: it is accepted, or refuses what was asked.
+abbrev pub is_answered : {X : Type 0} → Result X StoreError → Bool
+is_answered (Ok x) = true
+is_answered (Err e) = is_own e

@@ -1,12 +1,12 @@
 //! Edits of rows, through whatever holds them.
 ghost use Rattle.std.specs.Prelude.{◌≡◌, ◌≢◌, ◌⊎◌, [], ◌∷◌, Some, None, Ok};
-ghost use Rattle.std.specs.Prelude.{Err, map, string_bytes, IfOk, IfErr, IsSome, OnOk, is_ok};
+ghost use Rattle.std.specs.Prelude.{Err, map, string_bytes, IfOk, IfErr, IsSome, OnOk};
 ghost use Rattle.std.specs.Rc.{rc_str_bytes};
 ghost use Rattle.cs_value.specs.Value.{IsRow};
 ghost use Rattle.cs_value.specs.Table.{IsKeyedRow};
 ghost use Rattle.cs_value.specs.State.{State, IsRowAt, schema_at, row_at, with_row, without_row};
 ghost use Rattle.cs_rows.specs.Rows.{IsDeclared, Fits};
-ghost use Rattle.cs_rows.specs.Faults.{IsCaused, IsResource, IsEditRefusal};
+ghost use Rattle.cs_rows.specs.Faults.{IsCaused, IsResource, IsEditRefusal, is_answered};
 ghost use Rattle.cs_rows.specs.Editing.{edited, written_of, row_fault, in_table, inserted, updated, deleted};
 ghost use Rattle.cs_rows.specs.Editing.{IsWriteOf, IsPutOf, IsUpdateOf, IsRemovalOf};
 ghost use Rattle.cs_rows.specs.declared.fault.StoreError.TheVariants.{NoTable as NoSuchTable};
@@ -40,7 +40,7 @@ pub fn edit_in<B: Rows>(
     ensures caused { B.is_honest rows.new → IfErr result (IsCaused
         (B.fails (IsWriteOf (B.state rows.old) edit.now) rows.old rows.new)) }
     ensures was_honest { B.is_honest rows.new → B.is_honest rows.old }
-    ensures kept { B.keeps (IsWriteOf (B.state rows.old) edit.now) (is_ok result) rows.old rows.new }
+    ensures kept { B.keeps (IsWriteOf (B.state rows.old) edit.now) (is_answered result) rows.old rows.new }
     ensures leaves { (held : State) → B.leaves_only rows.old held → B.leaves_only rows.new held }
 {
     match edit {
@@ -60,7 +60,7 @@ fn find_schema<B: Rows>(alloc: Global, rows: &mut B, table: &str) -> Result<Sche
     ensures caused { B.is_honest rows.new → IfErr result (IsCaused
         (B.fails (λ _ _. ⊥) rows.old rows.new)) }
     ensures was_honest { B.is_honest rows.new → B.is_honest rows.old }
-    ensures kept { B.keeps (λ _ _. ⊥) (is_ok result) rows.old rows.new }
+    ensures kept { B.keeps (λ _ _. ⊥) (is_answered result) rows.old rows.new }
 {
     match rows.schema(alloc, table)? {
         Some(schema) => Ok(schema),
@@ -79,7 +79,7 @@ fn find_row<B: Rows>(alloc: Global, rows: &mut B, table: &str, key: &Key) -> Res
     ensures caused { B.is_honest rows.new → IfErr result (IsCaused
         (B.fails (λ _ _. ⊥) rows.old rows.new)) }
     ensures was_honest { B.is_honest rows.new → B.is_honest rows.old }
-    ensures kept { B.keeps (λ _ _. ⊥) (is_ok result) rows.old rows.new }
+    ensures kept { B.keeps (λ _ _. ⊥) (is_answered result) rows.old rows.new }
 {
     match rows.get(alloc, table, key)? {
         Some(row) => Ok(row),
@@ -103,7 +103,7 @@ fn check_vacant<B: Rows>(
     ensures caused { B.is_honest rows.new → IfErr result (IsCaused
         (B.fails (λ _ _. ⊥) rows.old rows.new)) }
     ensures was_honest { B.is_honest rows.new → B.is_honest rows.old }
-    ensures kept { B.keeps (λ _ _. ⊥) (is_ok result) rows.old rows.new }
+    ensures kept { B.keeps (λ _ _. ⊥) (is_answered result) rows.old rows.new }
 {
     match rows.get(alloc, table, key)? {
         Some(_) => Err(StoreError::KeyTaken),
@@ -196,7 +196,7 @@ fn insert_row<B: Rows>(
     ensures caused { B.is_honest rows.new → IfErr result (IsCaused
         (B.fails (IsPutOf (B.state rows.old) table.now row.now) rows.old rows.new)) }
     ensures was_honest { B.is_honest rows.new → B.is_honest rows.old }
-    ensures kept { B.keeps (IsPutOf (B.state rows.old) table.now row.now) (is_ok result) rows.old rows.new }
+    ensures kept { B.keeps (IsPutOf (B.state rows.old) table.now row.now) (is_answered result) rows.old rows.new }
 {
     let schema = find_schema(alloc, rows, table)?;
     let key = key_for(alloc, &schema, row)?;
@@ -224,7 +224,7 @@ fn replace_row<B: Rows>(
     ensures caused { B.is_honest rows.new → IfErr result (IsCaused
         (B.fails (IsPutOf (B.state rows.old) table.now row.now) rows.old rows.new)) }
     ensures was_honest { B.is_honest rows.new → B.is_honest rows.old }
-    ensures kept { B.keeps (IsPutOf (B.state rows.old) table.now row.now) (is_ok result) rows.old rows.new }
+    ensures kept { B.keeps (IsPutOf (B.state rows.old) table.now row.now) (is_answered result) rows.old rows.new }
 {
     let written = note_one(alloc, table, key, Some(former))?;
     rows.put(alloc, table, key, row)?;
@@ -256,7 +256,7 @@ fn move_row<B: Rows>(
         (B.fails (IsUpdateOf (B.state rows.old) table.now key.now row.now) rows.old rows.new)) }
     ensures was_honest { B.is_honest rows.new → B.is_honest rows.old }
     ensures kept { B.keeps (IsUpdateOf (B.state rows.old) table.now key.now row.now)
-        (is_ok result) rows.old rows.new }
+        (is_answered result) rows.old rows.new }
 {
     check_vacant(alloc, rows, table, next)?;
     let written = note_move(alloc, table, key, former, next)?;
@@ -282,7 +282,7 @@ fn update_row<B: Rows>(
         (B.fails (IsUpdateOf (B.state rows.old) table.now key.now row.now) rows.old rows.new)) }
     ensures was_honest { B.is_honest rows.new → B.is_honest rows.old }
     ensures kept { B.keeps (IsUpdateOf (B.state rows.old) table.now key.now row.now)
-        (is_ok result) rows.old rows.new }
+        (is_answered result) rows.old rows.new }
 {
     let schema = find_schema(alloc, rows, table)?;
     let next = key_for(alloc, &schema, row)?;
@@ -310,7 +310,7 @@ fn delete_row<B: Rows>(
         (B.fails (IsRemovalOf (B.state rows.old) table.now key.now) rows.old rows.new)) }
     ensures was_honest { B.is_honest rows.new → B.is_honest rows.old }
     ensures kept { B.keeps (IsRemovalOf (B.state rows.old) table.now key.now)
-        (is_ok result) rows.old rows.new }
+        (is_answered result) rows.old rows.new }
 {
     let _schema = find_schema(alloc, rows, table)?;
     let former = find_row(alloc, rows, table, key)?;

@@ -14,12 +14,13 @@ use Rattle.cs_store.proofs.CrashLemmas.{begun_tables}
 pub added_declares : (old new : tables.State) (name : List ℕ) (schema : tables.SchemaData) → IsDeclarable name schema → AddsTable old name schema new → Declares old name schema (Ok new)
 added_declares old new name schema may added = (may, added.free, added.added)
 
-module _ (old begun mid : State) (begins : HasCleanDisk begun → Begins old begun) (keeps : KeepsStore begun mid) (clean : HasCleanDisk mid) where
-  same_tables : tables_in begun.now ≡ tables_in old.now
-  same_tables = begun_tables old begun mid begins keeps clean
+-- a name that is found taken is refused
+pub taken_is_declared : (found old : tables.State) → found ≡ old → (name : List ℕ) (schema : tables.SchemaData) (e : StoreError) → IsDeclarable name schema → ((e ≡ TableExists) × IsDeclared found name) ⊎ IsResource e
+    → Declares old name schema (Err e) ⊎ IsResource e
+taken_is_declared found old same name schema e may (inl taken) = inl (subst (λ x. Declares old name schema (Err x)) (sym taken.0) (may, subst (λ s. IsDeclared s name) same taken.1))
+taken_is_declared found old same name schema e may (inr resource) = inr resource
 
-  -- a name that a batch found taken is refused
-  pub taken_declares : (name : List ℕ) (schema : tables.SchemaData) (e : StoreError) → IsDeclarable name schema → ((e ≡ TableExists) × IsDeclared (tables_in begun.now) name) ⊎ IsResource e
-      → Declares (tables_in old.now) name schema (Err e) ⊎ IsResource e
-  taken_declares name schema e may (inl taken) = inl (subst (λ x. Declares (tables_in old.now) name schema (Err x)) (sym taken.0) (may, subst (λ s. IsDeclared s name) same_tables taken.1))
-  taken_declares name schema e may (inr resource) = inr resource
+-- and so in a batch
+pub taken_declares : (old begun mid : State) → (HasCleanDisk begun → Begins old begun) → KeepsStore begun mid → HasCleanDisk mid → (name : List ℕ) (schema : tables.SchemaData) (e : StoreError) → IsDeclarable name schema
+    → ((e ≡ TableExists) × IsDeclared (tables_in begun.now) name) ⊎ IsResource e → Declares (tables_in old.now) name schema (Err e) ⊎ IsResource e
+taken_declares old begun mid begins keeps clean = taken_is_declared (tables_in begun.now) (tables_in old.now) (begun_tables old begun mid begins keeps clean)

@@ -1,10 +1,10 @@
 //! Batches: rows of a store that are written together.
-ghost use Rattle.std.specs.Prelude.{◌≡◌, ◌⊎◌, IsTrue, OnOk, OnErr, IfErr, false};
+ghost use Rattle.std.specs.Prelude.{◌≡◌, ◌⊎◌, IsTrue, OnOk, OnErr, IfErr, true, false};
 ghost use Rattle.sqlite.specs.State.{HasCleanDisk, Shows, Survives};
 ghost use Rattle.sqlite.specs.Held.{state};
 ghost use Rattle.cs_value.specs.Table.{IsName};
 ghost use Rattle.cs_rows.specs.declared.fault.StoreError.TheVariants.{TableExists as TakenName};
-ghost use Rattle.cs_rows.specs.Faults.{IsCaused, IsResource, IsReadRefusal};
+ghost use Rattle.cs_rows.specs.Faults.{IsCaused, IsResource, IsReadRefusal, is_answered};
 ghost use Rattle.cs_store_tables.specs.Failing.{BatchFails, CommitFails, IsDeclarationOf, LeadsOn};
 ghost use Rattle.cs_rows.specs.Rows.{IsDeclared};
 ghost use Rattle.cs_store_records.specs.Records.{IsUndone, KeepsCrash, KeepsOthers};
@@ -43,9 +43,9 @@ impl<S: Alter> SqlBatch<'_, S> {
             (state S.Store self.old.store.now) (state S.Store self.new.store.now))) }
         ensures named { IfErr result (λ e. (e ≡ TakenName) ⊎ IsReadRefusal e) }
         ensures same_reference { self.new.store.ghost_name ≡ self.old.store.ghost_name }
-        ensures leads { HasCleanDisk (state S.Store self.new.store.now)
-            → OnOk result (LeadsOn (IsDeclarationOf (tables_in (state S.Store self.old.store.now).now) name.now schema.now)
-            (state S.Store self.old.store.now) (state S.Store self.new.store.now)) }
+        ensures leads { HasCleanDisk (state S.Store self.new.store.now) → is_answered result ≡ true
+            → LeadsOn (IsDeclarationOf (tables_in (state S.Store self.old.store.now).now) name.now schema.now)
+            (state S.Store self.old.store.now) (state S.Store self.new.store.now) }
         ensures kept { KeepsStore (state S.Store self.old.store.now) (state S.Store self.new.store.now) }
     {
         let store = &mut *self.store;

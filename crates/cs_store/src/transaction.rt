@@ -1,29 +1,31 @@
 //! Transactions that own their store.
 ghost use Rattle.std.specs.Prelude.{◌≡◌, ◌⊎◌, true, false, List, None, Ok, Err, IsTrue, OnOk, OnErr, IfOk, IfErr};
-ghost use Rattle.std.specs.Prelude.{IfSome, map as map_list, string_bytes};
+ghost use Rattle.std.specs.Prelude.{IfSome, map as map_list, not, string_bytes};
 ghost use Rattle.std.specs.FinMap as map;
 ghost use Rattle.sqlite.specs.Effect.{Database};
 ghost use Rattle.sqlite.specs.State.{HasCleanDisk, Savepoint, Shows};
 ghost use Rattle.sqlite.specs.Held.{state};
 ghost use Rattle.cs_value.specs.State.{schema_at, row_at, rows_at};
+ghost use Rattle.cs_value.specs.Table.{IsName};
+ghost use Rattle.cs_rows.specs.declared.fault.StoreError.TheVariants.{BadSchema as NoSchema, TableExists as TakenName};
 ghost use Rattle.cs_rows.specs.declared.fault.StoreError.TheVariants.{NoTable as NoSuchTable};
-ghost use Rattle.cs_rows.specs.Faults.{IsCaused, IsResource, IsReadRefusal, IsEditRefusal};
+ghost use Rattle.cs_rows.specs.Faults.{IsCaused, IsResource, IsReadRefusal, IsEditRefusal, is_answered};
 ghost use Rattle.cs_rows.specs.Rows.{IsDeclared, Fits};
-ghost use Rattle.cs_rows.specs.Editing.{EditsInto, IsWriteOf, edited, written_of};
+ghost use Rattle.cs_rows.specs.Editing.{Declares, EditsInto, schema_of, IsWriteOf, edited, written_of};
 ghost use Rattle.cs_store_records.specs.Marks.{HasMark, IsMarked};
 ghost use Rattle.cs_store_records.specs.Records.{IsUndone, KeepsContent, KeepsCrash, KeepsOthers};
 ghost use Rattle.cs_store_tables.specs.Crash.{IsAtomic, LeavesOnly};
-ghost use Rattle.cs_store_tables.specs.Failing.{BatchFails, BeginFails, CommitFails, MarkFails};
+ghost use Rattle.cs_store_tables.specs.Failing.{BatchFails, BeginFails, CommitFails, IsDeclarationOf, LeadsOn, MarkFails};
 ghost use Rattle.cs_store_tables.specs.Failing.{ReadFails, ReleaseFails, Writes};
-ghost use Rattle.cs_store_tables.specs.Store.{Begins, Ends, HoldsState, IsInside, KeepsStore, RefusesShut};
+ghost use Rattle.cs_store_tables.specs.Store.{AddsTable, Begins, Ends, HoldsState, IsInside, KeepsStore, RefusesShut};
 ghost use Rattle.cs_store_tables.specs.Store.{tables_in};
-ghost use Rattle.cs_store.specs.Within.{Within};
+ghost use Rattle.cs_store.specs.Within.{EndsCall, HasBefore, Within};
 
 use crate::store::Store;
 use cs_rows::{Edit, Rows, Schema, StoreError, Written, edit_in};
 use cs_store_records::transactions;
 use cs_store_tables::{commit, refused};
-use cs_value::{Key, Row};
+use cs_value::{Key, Row, is_table_name};
 use sqlite::{Alter, Connection};
 use std::alloc::Global;
 use std::marker::Model;
@@ -117,11 +119,14 @@ impl<S: Alter + Drop> Transaction<S> {
     }
 
     /// Has no effect. Its contract says that a transaction whose connection is open shows the tables of a state, and
-    /// all but the records as it was committed last.
+    /// all but the records as it was committed last. One that has ended shows what was committed last.
     pub fn store_law(&self)
-        ensures { HasCleanDisk (state S.Store self.now) → IsTrue (state S.Store self.now).is_open
+        ensures holds { HasCleanDisk (state S.Store self.now) → IsTrue (state S.Store self.now).is_open
             → HoldsState (state S.Store self.now).now
             × KeepsOthers (state S.Store self.now).committed (state S.Store self.now).now }
+        ensures settled { HasCleanDisk (state S.Store self.now) → (state S.Store self.now).in_transaction ≡ false
+            → IsTrue (state S.Store self.now).is_open
+            → (state S.Store self.now).now ≡ (state S.Store self.now).committed }
     {
         let _ = &self.store.conn;
     }
@@ -184,25 +189,71 @@ impl<S: Alter + Drop> Transaction<S> {
         }
     }
 
-    /// Goes back to the newest mark, which must be there if the transaction is open, and drops it. Or the transaction
-    /// ends, and the store is as it was when the transaction began. The answer does not say which.
-    pub fn go_back(&mut self)
+    /// Goes back to the newest mark, which must be there if the transaction is open, and drops it.
+    ///
+    /// # Errors
+    ///
+    /// `StoreFault` if the transaction has ended or the database refuses, and `NoMemory` if out of memory. The
+    /// transaction has ended then, and the store is as it was when the transaction began.
+    pub fn go_back(&mut self) -> Result<(), StoreError>
         requires { HasCleanDisk (state S.Store self.old) → IsTrue (state S.Store self.old).in_transaction
-            → (before : List Savepoint) × (db : Database) × HoldsState db
-            × (IsTrue (state S.Store self.old).is_open → KeepsOthers (state S.Store self.old).committed db)
-            × IsMarked before db (state S.Store self.old) }
+            → HasBefore (state S.Store self.old) }
         ensures back { (before : List Savepoint) (db : Database)
             → (IsTrue (state S.Store self.old).in_transaction → IsMarked before db (state S.Store self.old))
-            → HasCleanDisk (state S.Store self.new) → IsTrue (state S.Store self.new).in_transaction
-            → IsTrue (state S.Store self.old).in_transaction × Shows (state S.Store self.old) (state S.Store self.new)
-            db (state S.Store self.old).committed true × ((state S.Store self.new).marks ≡ before) }
-        ensures undone { HasCleanDisk (state S.Store self.new) → (state S.Store self.new).in_transaction ≡ false
-            → IsUndone (state S.Store self.old) (state S.Store self.new) }
+            → HasCleanDisk (state S.Store self.new) → OnOk result
+            (IsTrue (state S.Store self.old).in_transaction × Shows (state S.Store self.old) (state S.Store self.new)
+            db (state S.Store self.old).committed true × ((state S.Store self.new).marks ≡ before)) }
+        ensures undone { HasCleanDisk (state S.Store self.new)
+            → OnErr result (IsUndone (state S.Store self.old) (state S.Store self.new)) }
+        ensures refused { IfErr result IsResource }
+        ensures caused { HasCleanDisk (state S.Store self.new)
+            → IfErr result (IsCaused (MarkFails (state S.Store self.old) (state S.Store self.new))) }
         ensures survives { KeepsCrash (state S.Store self.old) (state S.Store self.new) }
     {
         let store = &mut self.store;
         store.known = None;
-        cs_store_tables::go_back(&mut store.conn);
+        cs_store_tables::go_back(&mut store.conn)
+    }
+
+    /// Returns whether the transaction has ended.
+    pub fn has_ended(&self) -> bool
+        ensures value { result ≡ not (state S.Store self.now).in_transaction }
+        ensures settled { IsTrue result → IsTrue (state S.Store self.now).is_open
+            → (state S.Store self.now).now ≡ (state S.Store self.now).committed }
+    {
+        self.store.conn.is_autocommit()
+    }
+
+    /// Ends a call that set a mark first: drops the mark if the call is accepted, and goes back to it if the call is
+    /// refused. It does nothing if the refused call has ended the transaction.
+    ///
+    /// # Errors
+    ///
+    /// `StoreFault` if the database refuses, and `NoMemory` if out of memory. The transaction has ended then, and the
+    /// store is as it was when the transaction began.
+    pub fn end_call(&mut self, accepted: bool) -> Result<(), StoreError>
+        requires inside { IsTrue accepted → HasCleanDisk (state S.Store self.old)
+            → IsTrue (state S.Store self.old).in_transaction }
+        requires marked { HasCleanDisk (state S.Store self.old) → IsTrue (state S.Store self.old).in_transaction
+            → HasBefore (state S.Store self.old) }
+        ensures ends { (before : List Savepoint) (db : Database)
+            → (IsTrue (state S.Store self.old).in_transaction → IsMarked before db (state S.Store self.old))
+            → HasCleanDisk (state S.Store self.new) → OnOk result
+            (EndsCall accepted before db (state S.Store self.old) (state S.Store self.new)) }
+        ensures undone { HasCleanDisk (state S.Store self.new)
+            → OnErr result (IsUndone (state S.Store self.old) (state S.Store self.new)) }
+        ensures refused { IfErr result IsResource }
+        ensures caused { HasCleanDisk (state S.Store self.new)
+            → IfErr result (IsCaused (ReleaseFails (state S.Store self.old) (state S.Store self.new))) }
+        ensures survives { KeepsCrash (state S.Store self.old) (state S.Store self.new) }
+    {
+        if accepted {
+            return self.release();
+        }
+        if self.has_ended() {
+            return Ok(());
+        }
+        self.go_back()
     }
 
     /// Drops what was written, and returns the store as it was when the transaction began.
@@ -314,13 +365,77 @@ impl<S: Alter> Transaction<S> {
 }
 
 impl<S: Alter + Drop> Transaction<S> {
+    /// Declares a table without rows.
+    ///
+    /// `columns` has the names of its columns. Those marked in `keys` are the key. Those of the key and those marked in
+    /// `refuses` refuse NULL.
+    ///
+    /// # Errors
+    ///
+    /// `BadSchema` if the name or the columns make no table, and then `TableExists`. `DamagedStore` and `NoMemory` as of
+    /// [`tables`](Transaction::tables). `StoreFault` if the transaction has ended or the database refuses. What a
+    /// refusal leaves is as of [`edit`](Transaction::edit).
+    pub fn declare(
+        &mut self,
+        alloc: Global,
+        name: &str,
+        columns: &[String],
+        keys: &[bool],
+        refuses: &[bool],
+    ) -> Result<(), StoreError>
+        ensures declared { HasCleanDisk (state S.Store self.new)
+            → OnOk result (Declares (tables_in (state S.Store self.old).now) name.now
+            (schema_of columns.now keys.now refuses.now) (Ok (tables_in (state S.Store self.new).now))) }
+        ensures refused { HasCleanDisk (state S.Store self.new)
+            → IfErr result (λ e. (Declares (tables_in (state S.Store self.old).now) name.now
+            (schema_of columns.now keys.now refuses.now) (Err e)) ⊎ IsResource e) }
+        ensures caused { HasCleanDisk (state S.Store self.new) → IfErr result (IsCaused (BatchFails
+            (IsDeclarationOf (tables_in (state S.Store self.old).now) name.now
+            (schema_of columns.now keys.now refuses.now)) (state S.Store self.old) (state S.Store self.new))) }
+        ensures named { IfErr result (λ e. (e ≡ NoSchema) ⊎ (e ≡ TakenName) ⊎ IsReadRefusal e) }
+        ensures within { Within (λ left. Declares (tables_in (state S.Store self.old).now) name.now
+            (schema_of columns.now keys.now refuses.now) (Ok left))
+            IsReadRefusal (state S.Store self.old) (state S.Store self.new) result }
+    {
+        self.store_law();
+        if !is_table_name(name) {
+            return Err(StoreError::BadSchema);
+        }
+        let schema = Schema::new(alloc, columns, keys, refuses)?;
+        self.mark()?;
+        let result = self.add_table(alloc, name, &schema);
+        self.end_call(result.is_ok())?;
+        result
+    }
+
+    /// Adds a table without rows, where none has the name.
+    fn add_table(&mut self, alloc: Global, name: &str, schema: &Schema) -> Result<(), StoreError>
+        requires { IsName name.now }
+        ensures declared { HasCleanDisk (state S.Store self.new)
+            → OnOk result (AddsTable (tables_in (state S.Store self.old).now) name.now schema.now
+            (tables_in (state S.Store self.new).now)) }
+        ensures refused { HasCleanDisk (state S.Store self.new) → IfErr result (λ e. ((e ≡ TakenName)
+            × IsDeclared (tables_in (state S.Store self.old).now) name.now) ⊎ IsResource e) }
+        ensures caused { HasCleanDisk (state S.Store self.new) → IfErr result (IsCaused (BatchFails
+            (IsDeclarationOf (tables_in (state S.Store self.old).now) name.now schema.now)
+            (state S.Store self.old) (state S.Store self.new))) }
+        ensures named { IfErr result (λ e. (e ≡ TakenName) ⊎ IsReadRefusal e) }
+        ensures leads { HasCleanDisk (state S.Store self.new) → is_answered result ≡ true → LeadsOn
+            (IsDeclarationOf (tables_in (state S.Store self.old).now) name.now schema.now)
+            (state S.Store self.old) (state S.Store self.new) }
+        ensures kept { KeepsStore (state S.Store self.old) (state S.Store self.new) }
+    {
+        let store = &mut self.store;
+        cs_store_tables::add_table(&mut store.conn, &mut store.known, alloc, name, schema)
+    }
+
     /// Carries out an edit as [`edit_in`] does.
     ///
     /// # Errors
     ///
     /// Those of [`edit_in`]. An edit is refused if the transaction has ended. After a refusal the transaction shows
-    /// what it showed before, or it has ended, and the store is as it was when the transaction began. The error does
-    /// not say which.
+    /// what it showed before. Or the error is of the disk or of memory, the transaction has
+    /// [ended](Transaction::has_ended), and the store is as it was when the transaction began.
     pub fn edit(&mut self, alloc: Global, edit: &Edit) -> Result<Vec<Written>, StoreError>
         ensures edited { HasCleanDisk (state S.Store self.new)
             → IfOk result (λ w. edited (tables_in (state S.Store self.old).now) edit.now
@@ -331,21 +446,14 @@ impl<S: Alter + Drop> Transaction<S> {
             (Writes (IsWriteOf (tables_in (state S.Store self.old).now) edit.now)) (state S.Store self.old)
             (state S.Store self.new))) }
         ensures named { IfErr result IsEditRefusal }
-        ensures within { Within (EditsInto (tables_in (state S.Store self.old).now) edit.now)
+        ensures within { Within (EditsInto (tables_in (state S.Store self.old).now) edit.now) IsReadRefusal
             (state S.Store self.old) (state S.Store self.new) result }
     {
         self.store_law();
         self.mark()?;
-        match edit_in(alloc, self, edit) {
-            Ok(written) => {
-                self.release()?;
-                Ok(written)
-            }
-            Err(error) => {
-                self.go_back();
-                Err(error)
-            }
-        }
+        let result = edit_in(alloc, self, edit);
+        self.end_call(result.is_ok())?;
+        result
     }
 }
 

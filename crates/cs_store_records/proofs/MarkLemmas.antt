@@ -1,6 +1,5 @@
 -- What SAVEPOINT, RELEASE and ROLLBACK TO do with marks, whatever the schema.
-use Rattle.std.proofs.Common.{◌≡◌, ◌≢◌, ◌⊎◌, ◌+◌, inl, inr, ℕ, List, [], ◌∷◌, ◌++◌, length, map, take, slice_get, slice_index_or, Some, not, true, false, codes, Ok, Err, Result, IsTrue, refl, sym, subst, ◌∙◌, arith}
-use Rattle.std.specs.Result.{is_ok}
+use Rattle.std.proofs.Common.{◌≡◌, ◌≢◌, ◌⊎◌, ◌+◌, inl, inr, ℕ, List, [], ◌∷◌, ◌++◌, length, map, take, slice_get, slice_index_or, Some, not, true, false, codes, Ok, Err, IsTrue, refl, sym, subst, ◌∙◌, arith}
 use Rattle.std.proofs.lemmas.Bool.{both_ways, cases_lt}
 use Rattle.std.proofs.lemmas.List.{length-append, take_all, take_at}
 use Rattle.sqlite_trees.specs.Sound.{same_name}
@@ -22,6 +21,7 @@ use Rattle.cs_store_records.specs.Records.{IsUndone, KeepsCrash}
 use Rattle.cs_store_records.specs.Failing.{HasDiskFailed}
 use Rattle.cs_store_records.specs.Marks.{mark_name, mark_at, IsMarked, HasMark}
 use Rattle.cs_store_records.proofs.ContentLemmas.{crash_then}
+use Rattle.cs_store_records.proofs.ReadFailures.{disk_from}
 use Rattle.cs_store_records.proofs.StatementLemmas.{IsWhole, by_disk, commits_as, fails_as, undone_by}
 
 abbrev pub mark_text : List ℕ
@@ -216,6 +216,14 @@ module _ (old new : State) where
           | inr misplaced ↦ absurd (in_place before db old marked (RollbackTo mark_name) e (inr refl) misplaced.0)
         ]
 
+    -- by the disk, or for memory
+    pub back_fails : (e : Error) → e ≢ SqliteFailure OutOfMemory → Executes back_text [] old new (Err e) → HasDiskFailed old new e
+    back_fails e other h =
+        elim (fails_as back_text [] old.now.schema (RollbackTo mark_name) (back_is old.now.schema) (back_plain old.now.schema) (λ none. none) refl old new e refl (back_whole old.now.schema) h) [
+          | inl fails ↦ by_disk old new e _ (λ big. let refused = big.2 in cc) other fails
+          | inr misplaced ↦ absurd (in_place before db old marked (RollbackTo mark_name) e (inr refl) misplaced.0)
+        ]
+
   -- RELEASE of a mark commits nothing
   never_commits : HasMark old → (db : Trees) → ¬ CommitsBy release_text [] old db
   never_commits (before, at, marked) db by =
@@ -250,41 +258,42 @@ undone_after old mid new db shown undone = record {
   committed = λ k. undone.committed k ∙ shown.committed_is;
 }
 
--- where the first fails, the transaction is rolled back
-pub not_gone_back : (old new : State) (before : List Savepoint) (db : Database) → IsMarked before db old → (first : Result ℕ Error) → is_ok first ≡ false → Executes back_text [] old new first → IsUndone old new
-not_gone_back old new before db marked (Ok count) ok h = absurd (cc)
-not_gone_back old new before db marked (Err e) ok h = back_undone old new before db marked e h
+module _ (old mid new : State) (count : ℕ) where
+  module _ (before : List Savepoint) (db : Database) (marked : IsMarked before db old) (first : Executes back_text [] old mid (Ok count)) where
+    -- where both succeed, the content is that of the mark
+    pub gone_back : (more : ℕ) → Executes release_text [] mid new (Ok more) → Shows old new db old.committed true × (new.marks ≡ before)
+    gone_back more second =
+        let went = goes_back old mid before db marked count first in
+        let dropped = releases mid new before db went.1 more second in (
+          record {
+            was_open = went.0.was_open;
+            is_open = dropped.0.is_open;
+            now_is = dropped.0.now_is ∙ went.0.now_is;
+            committed_is = dropped.0.committed_is ∙ went.0.committed_is;
+            mode = dropped.0.mode;
+          },
+          dropped.1,
+        )
 
-module _ (old mid new : State) (before : List Savepoint) (db : Database) (marked : IsMarked before db old) where
-  -- where both succeed, the content is that of the mark; else the transaction is rolled back
-  pub gone_back : (first second : Result ℕ Error) → is_ok first ≡ true → Executes back_text [] old mid first → Executes release_text [] mid new second
-      → (Shows old new db old.committed true × (new.marks ≡ before)) ⊎ IsUndone old new
-  gone_back (Err e) second ok h then = absurd (cc)
-  gone_back (Ok count) (Err e) ok h then =
-      let went = goes_back old mid before db marked count h in
-      inr (undone_after old mid new db went.0 (release_undone mid new before db went.1 e then))
-  gone_back (Ok count) (Ok more) ok h then =
-      let went = goes_back old mid before db marked count h in
-      let dropped = releases mid new before db went.1 more then in
-      inl (
-        record {
-          was_open = went.0.was_open;
-          is_open = dropped.0.is_open;
-          now_is = dropped.0.now_is ∙ went.0.now_is;
-          committed_is = dropped.0.committed_is ∙ went.0.committed_is;
-          mode = dropped.0.mode;
-        },
-        dropped.1,
-      )
+    -- where the second fails, the transaction is rolled back
+    pub not_gone_back : (e : Error) → Executes release_text [] mid new (Err e) → IsUndone old new
+    not_gone_back e second =
+        let went = goes_back old mid before db marked count first in
+        undone_after old mid new db went.0 (release_undone mid new before db went.1 e second)
 
--- the mark stays for the second
-mark_stays : (old mid : State) (first : Result ℕ Error) → is_ok first ≡ true → HasMark old → Executes back_text [] old mid first → HasMark mid
-mark_stays old mid (Err e) ok has h = absurd (cc)
-mark_stays old mid (Ok count) ok (before, db, marked) h = (before, db, (goes_back old mid before db marked count h).1)
+    -- by the disk, or for memory
+    pub not_gone_back_fails : KeepsCrash old mid → (e : Error) → e ≢ SqliteFailure OutOfMemory → Executes release_text [] mid new (Err e) → HasDiskFailed old new e
+    not_gone_back_fails crash e other second =
+        let went = goes_back old mid before db marked count first in
+        disk_from old mid new e crash went.0.is_open (release_fails mid new before db went.1 e other second)
 
--- and both commit nothing
-pub gone_back_keeps_crash : (old mid new : State) (first : Result ℕ Error) → is_ok first ≡ true → (HasCleanDisk old → HasMark old) → (HasCleanDisk mid → Executes back_text [] old mid first)
-    → Survives old mid (CommitsBy back_text [] old) → Survives mid new (CommitsBy release_text [] mid) → KeepsCrash old new
-gone_back_keeps_crash old mid new first ok has h one two =
-    crash_then old mid new (back_keeps_crash old mid one)
-    (release_keeps_crash mid new (λ clean. mark_stays old mid first ok (has (omega (arith, clean, one.clean))) (h clean)) two)
+  -- the mark stays for the second
+  mark_stays : HasMark old → Executes back_text [] old mid (Ok count) → HasMark mid
+  mark_stays (before, db, marked) first = (before, db, (goes_back old mid before db marked count first).1)
+
+  -- and both commit nothing
+  pub gone_back_keeps_crash : (HasCleanDisk old → HasMark old) → (HasCleanDisk mid → Executes back_text [] old mid (Ok count))
+      → Survives old mid (CommitsBy back_text [] old) → Survives mid new (CommitsBy release_text [] mid) → KeepsCrash old new
+  gone_back_keeps_crash has first one two =
+      crash_then old mid new (back_keeps_crash old mid one)
+      (release_keeps_crash mid new (λ clean. mark_stays (has (omega (arith, clean, one.clean))) (first clean)) two)

@@ -104,26 +104,30 @@ pub fn release<S: Alter>(conn: &mut Connection<S>) -> Result<(), RecordsError>
     Ok(())
 }
 
-/// Takes the open transaction back to its newest mark, which must be there, and drops the mark. If that fails, the
-/// transaction is rolled back. It does nothing where none is open.
-pub fn go_back<S: Alter>(conn: &mut Connection<S>)
+/// Takes the open transaction back to its newest mark, which must be there, and drops the mark. It is refused if no
+/// transaction is open. If it fails, the transaction is rolled back.
+pub fn go_back<S: Alter>(conn: &mut Connection<S>) -> Result<(), RecordsError>
     ensures back { (before : List Savepoint) (db : Database)
         → (IsTrue (state S.Store conn.old).in_transaction → IsMarked before db (state S.Store conn.old))
-        → HasCleanDisk (state S.Store conn.new) → IsTrue (state S.Store conn.new).in_transaction
-        → IsTrue (state S.Store conn.old).in_transaction
+        → HasCleanDisk (state S.Store conn.new)
+        → OnOk result (IsTrue (state S.Store conn.old).in_transaction
         × Shows (state S.Store conn.old) (state S.Store conn.new) db (state S.Store conn.old).committed true
-        × ((state S.Store conn.new).marks ≡ before) }
+        × ((state S.Store conn.new).marks ≡ before)) }
     ensures undone { (IsTrue (state S.Store conn.old).in_transaction → HasMark (state S.Store conn.old))
-        → HasCleanDisk (state S.Store conn.new) → (state S.Store conn.new).in_transaction ≡ false
-        → IsUndone (state S.Store conn.old) (state S.Store conn.new) }
+        → HasCleanDisk (state S.Store conn.new)
+        → OnErr result (IsUndone (state S.Store conn.old) (state S.Store conn.new)) }
+    ensures failed { (IsTrue (state S.Store conn.old).in_transaction → HasMark (state S.Store conn.old))
+        → HasCleanDisk (state S.Store conn.new)
+        → IfErr result (IsFailure (λ error. IsMisplaced ((state S.Store conn.old).in_transaction ≡ false) error
+        ⊎ HasDiskFailed (state S.Store conn.old) (state S.Store conn.new) error)) }
     ensures survives { (HasCleanDisk (state S.Store conn.old) → IsTrue (state S.Store conn.old).in_transaction
         → HasMark (state S.Store conn.old))
         → KeepsCrash (state S.Store conn.old) (state S.Store conn.new) }
 {
     if conn.is_autocommit() {
-        return;
+        return Err(RecordsError::Database(Error::SqliteFailure(ErrorCode::TransactionState)));
     }
-    if conn.execute("ROLLBACK TO call", &[]).is_ok() {
-        let _ = conn.execute("RELEASE call", &[]);
-    }
+    conn.execute("ROLLBACK TO call", &[])?;
+    conn.execute("RELEASE call", &[])?;
+    Ok(())
 }

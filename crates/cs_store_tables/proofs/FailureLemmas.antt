@@ -1,5 +1,5 @@
 -- For which causes a call on a store fails.
-use Rattle.std.proofs.Common.{◌≡◌, inl, inr, ℕ, [], false, Result, Ok, Err, IfErr, OnOk, sym, subst, MatchResult, IsErrAnd, IsTrue, refl, List, None, true, Bool}
+use Rattle.std.proofs.Common.{◌≡◌, inl, inr, ℕ, [], false, Result, Ok, Err, IfErr, OnOk, sym, subst, MatchResult, IsErrAnd, IsTrue, refl, List, None, true, true≢false, ◌∙◌, Bool}
 use Rattle.cs_store_tables.specs.Failing.{IsMade, LeadsOn, WriteFails, BatchFails, IsDeclarationOf, IsCauseOf, ReadFails, IsApt, PutFails, RemoveFails, Writes}
 use Rattle.cs_store_records.specs.Failing.{Statement, CannotWrite, FailsAt, IsFailure, CannotRead, puts, EndsAs, LeadsTo, itself, by_each, removes}
 use Rattle.cs_store_records.proofs.WriteFailures.{write_fails}
@@ -8,7 +8,7 @@ use Rattle.sqlite.specs.State.{State, HasCleanDisk, IsUnchanged}
 use Rattle.sqlite.specs.declared.error.Error.{Error}
 use Rattle.cs_rows.specs.declared.fault.Cause.{Cause}
 use Rattle.cs_rows.specs.declared.fault.StoreError.{StoreError}
-use Rattle.cs_rows.specs.Faults.{IsCaused}
+use Rattle.cs_rows.specs.Faults.{IsCaused, IsReadRefusal, is_answered}
 use Rattle.cs_store_records.specs.declared.fault.RecordsError.{RecordsError}
 use Rattle.cs_store_records.specs.declared.fault.RecordsError.TheVariants.{NoMemory, Database}
 use Rattle.cs_store_records.specs.Records.{DeclaresRecords, HoldsRecords, KeepsCrash, records_in, GoesOn}
@@ -20,8 +20,14 @@ use Rattle.cs_store_tables.specs.Store.{IsSound, tables_in}
 use Rattle.cs_store_tables.specs.Laws.{leads_so, was_clean}
 use Rattle.cs_rows.specs.declared.fault.StoreError.TheVariants as store
 pub use Rattle.cs_rows.proofs.CauseLemmas.{so_caused, caused_so}
+use Rattle.cs_rows.proofs.CauseLemmas.{not_own}
 use Rattle.cs_value.specs.State as tables
 use Rattle.cs_rows.specs.Rows.{puts_row, removes_row}
+
+-- what holds of an accepted call holds of one that was answered, where the rows alone refuse it
+pub answered : {X : Type 0} (r : Result X StoreError) (P : Type 0) → IfErr r IsReadRefusal → OnOk r P → is_answered r ≡ true → P
+answered (Ok x) P refused holds is = holds
+answered (Err e) P refused holds is = absurd (true≢false (sym is ∙ not_own e refused))
 
 -- where a call on records fails with such errors, the store refuses for such causes
 pub caused : (Fails : Error → Type 0) (f : RecordsError) → IsFailure Fails f → IsCaused (IsCauseOf Fails) (refusal_of f)

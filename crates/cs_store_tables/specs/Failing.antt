@@ -57,7 +57,8 @@ BeginFails old new = IsCauseOf (λ error. IsMisplaced (IsTrue old.in_transaction
 abbrev pub CommitFails : State → State → Cause → Type 0
 CommitFails old new = IsCauseOf (λ error. IsMisplaced (old.in_transaction ≡ false) error ⊎ HasDiskFailed old new error)
 
--- A transaction is not marked, where none is open or the disk failed, and a mark is not dropped, where the disk failed.
+-- A transaction is not marked, and does not go back to a mark, where none is open or the disk failed. A mark is not
+-- dropped, where the disk failed.
 abbrev pub MarkFails : State → State → Cause → Type 0
 MarkFails old new = IsCauseOf (λ error. IsMisplaced (old.in_transaction ≡ false) error ⊎ HasDiskFailed old new error)
 

@@ -75,3 +75,29 @@ pub fn release<S: Alter>(conn: &mut Connection<S>) -> Result<(), StoreError>
         Err(error) => Err(refused(error)),
     }
 }
+
+/// Takes the open transaction of a connection back to its newest mark, which must be there, and drops the mark. It is
+/// refused if no transaction is open. If it fails, the transaction is rolled back.
+pub fn go_back<S: Alter>(conn: &mut Connection<S>) -> Result<(), StoreError>
+    ensures back { (before : List Savepoint) (db : Database)
+        → (IsTrue (state S.Store conn.old).in_transaction → IsMarked before db (state S.Store conn.old))
+        → HasCleanDisk (state S.Store conn.new)
+        → OnOk result (IsTrue (state S.Store conn.old).in_transaction
+        × Shows (state S.Store conn.old) (state S.Store conn.new) db (state S.Store conn.old).committed true
+        × ((state S.Store conn.new).marks ≡ before)) }
+    ensures refused { IfErr result IsResource }
+    ensures caused { (IsTrue (state S.Store conn.old).in_transaction → HasMark (state S.Store conn.old))
+        → HasCleanDisk (state S.Store conn.new)
+        → IfErr result (IsCaused (MarkFails (state S.Store conn.old) (state S.Store conn.new))) }
+    ensures undone { (IsTrue (state S.Store conn.old).in_transaction → HasMark (state S.Store conn.old))
+        → HasCleanDisk (state S.Store conn.new)
+        → OnErr result (IsUndone (state S.Store conn.old) (state S.Store conn.new)) }
+    ensures survives { (HasCleanDisk (state S.Store conn.old) → IsTrue (state S.Store conn.old).in_transaction
+        → HasMark (state S.Store conn.old))
+        → KeepsCrash (state S.Store conn.old) (state S.Store conn.new) }
+{
+    match transactions::go_back(conn) {
+        Ok(()) => Ok(()),
+        Err(error) => Err(refused(error)),
+    }
+}

@@ -1,12 +1,12 @@
 //! What is read and written through a store. The table that was looked up last is known: inside a transaction, where
 //! nobody else writes, its schema is not read again. So is the key that was looked up last, where no row has it: a row
 //! that is put there is new, and none is looked for to be replaced.
-ghost use Rattle.std.specs.Prelude.{◌≡◌, ◌⊎◌, IsTrue, IfOk, IfErr, OnOk, IfSome, None, Some, option_map};
+ghost use Rattle.std.specs.Prelude.{◌≡◌, ◌⊎◌, true, IsTrue, IfOk, IfErr, OnOk, IfSome, None, Some, option_map};
 ghost use Rattle.std.specs.FinMap as map;
 ghost use Rattle.cs_value.specs.Table.{IsName};
 ghost use Rattle.cs_value.specs.State.{schema_at, row_at, rows_at, with_row, without_row};
 ghost use Rattle.cs_rows.specs.declared.fault.StoreError.TheVariants.{TableExists as TakenName};
-ghost use Rattle.cs_rows.specs.Faults.{IsCaused, IsResource, IsReadRefusal};
+ghost use Rattle.cs_rows.specs.Faults.{IsCaused, IsResource, IsReadRefusal, is_answered};
 ghost use Rattle.cs_rows.specs.Rows.{IsDeclared, Fits, puts_row, removes_row};
 ghost use Rattle.cs_store_tables.specs.Failing.{BatchFails, IsDeclarationOf, LeadsOn, PutFails, ReadFails, RemoveFails, Writes};
 ghost use Rattle.cs_store_tables.specs.Store.{AddsTable, IsFreeKey, IsSound, KeepsStore, Knows, RefusesShut};
@@ -253,8 +253,9 @@ pub fn add_table<S: Alter>(
         (state S.Store conn.old) (state S.Store conn.new))) }
     ensures named { IfErr result (λ e. (e ≡ TakenName) ⊎ IsReadRefusal e) }
     ensures knows { Knows (state S.Store conn.new) known.new }
-    ensures leads { HasCleanDisk (state S.Store conn.new)
-        → OnOk result (LeadsOn (IsDeclarationOf (tables_in (state S.Store conn.old).now) name.now schema.now) (state S.Store conn.old) (state S.Store conn.new)) }
+    ensures leads { HasCleanDisk (state S.Store conn.new) → is_answered result ≡ true
+        → LeadsOn (IsDeclarationOf (tables_in (state S.Store conn.old).now) name.now schema.now)
+        (state S.Store conn.old) (state S.Store conn.new) }
     ensures kept { KeepsStore (state S.Store conn.old) (state S.Store conn.new) }
 {
     match find_schema(conn, known, alloc, name) {

@@ -16,8 +16,7 @@ mod known;
 mod refusal;
 mod tables;
 
-pub use cs_store_records::transactions::go_back;
-pub use ending::{commit, mark, release};
+pub use ending::{commit, go_back, mark, release};
 pub use known::{KnownTable, add_table, find_row, find_schema, list_rows, put_row, remove_row};
 pub use refusal::refused;
 pub use tables::list_tables;

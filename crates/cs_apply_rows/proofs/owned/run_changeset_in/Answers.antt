@@ -8,7 +8,7 @@ use Rattle.cs_wire.specs.Changeset.{GroupData, file_bytes}
 use Rattle.cs_apply_rows.specs.Running.{directed}
 use Rattle.cs_apply_rows.specs.Writes.{IsRunWrite}
 use Rattle.cs_apply_rows.proofs.BehindLemmas.{behind_start}
-use Rattle.cs_apply_rows.proofs.CauseLemmas.{caused_on, run_write}
+use Rattle.cs_apply_rows.proofs.CauseLemmas.{caused_on, not_own, run_write}
 use Rattle.cs_apply_rows.proofs.DirectedLemmas.{directed_none, group_names, groups_more, read_as, run_outcome}
 use Rattle.cs_apply_conflicts.specs.declared.conflict.Noop.TheVariants.{Report as Reported}
 use Rattle.cs_apply_rows.proofs.OutcomeLemmas.{told_reports}
@@ -72,7 +72,7 @@ returns-in_err-take_group-clause-kept g c =
     let within : i < length all = rw groups.same at c.loop-group-test.true in
     let is : group ≡ get_or all i group = c.group-item.is ∙ ap (λ (l : List GroupData). get_or l i group) groups.same in
     let p = err_from_is_err_and c.from_residual-in_err-take_group.result c.from_residual-in_err-take_group.ensures.1 in
-    rw p.1 (g.B.Rows.keeps_then Is _ _ _ _ c.loop-group.invariant.1
+    rw (p.1, p.2, not_own _ c.in_err-take_group.ensures.named) (g.B.Rows.keeps_then Is _ _ _ _ c.loop-group.invariant.1
     (g.B.Rows.keeps_so _ Is _ _ _ (λ held write h wrote. run_write c.args.direction all i group held write within is wrote) c.in_err-take_group.ensures.kept))
 
 pub returns-clause-applied : goal.returns-clause-applied

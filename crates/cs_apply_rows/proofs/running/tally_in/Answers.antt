@@ -9,7 +9,7 @@ use Rattle.cs_apply_rows.specs.Running.{directed}
 use Rattle.cs_apply_rows.proofs.BehindLemmas.{behind_start}
 use Rattle.cs_apply_rows.specs.Run.{directed_group, group_of}
 use Rattle.cs_apply_rows.specs.Writes.{IsFileWrite, IsGroupWrite}
-use Rattle.cs_apply_rows.proofs.CauseLemmas.{caused_on, next_table_write}
+use Rattle.cs_apply_rows.proofs.CauseLemmas.{caused_on, next_table_write, not_own}
 use Rattle.cs_apply_rows.proofs.DirectedLemmas.{directed_none, outcome_caused, outcome_named, read_as, run_outcome}
 use Rattle.cs_apply_rows.proofs.FileLemmas.{tables_all, tables_next}
 use Rattle.cs_apply_rows.proofs.running.tally_in.Goals as goal
@@ -74,7 +74,7 @@ returns-in_err-take_table-clause-kept g c =
     let group : group_of (header_of c.in-Some.header) is.group.entries ≡ is.group = ap (λ (h : HeaderData). group_of h is.group.entries) is.header_is in
     let whole : so.8.groups ≡ so.8.closed ++ is.group ∷ is.others = so.8.whole ∙ ap (λ (gs : List GroupData). so.8.closed ++ gs) is.is in
     let p = err_from_is_err_and c.from_residual-in_err-take_table.result c.from_residual-in_err-take_table.ensures.1 in
-    rw p.1 (g.B.Rows.keeps_then Is _ _ _ _ so.1
+    rw (p.1, p.2, not_own _ c.in_err-take_table.ensures.named) (g.B.Rows.keeps_then Is _ _ _ _ so.1
     (g.B.Rows.keeps_so _ Is _ _ _ (λ held write h wrote. next_table_write c.args.direction c.args.file.now so.8.groups so.8.closed is.others is.group held write so.8.is_file whole
     (subst (λ (k : GroupData). IsGroupWrite (directed_group c.args.direction k) held write) group wrote)) (c.in_err-take_table.ensures.kept is.group.entries is.others is.are_left)))
 

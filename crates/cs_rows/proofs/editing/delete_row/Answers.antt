@@ -1,8 +1,8 @@
 -- `editing::delete_row`: the clauses `caused` and `kept`.
-use Rattle.std.proofs.Common.{◌∙◌}
+use Rattle.std.proofs.Common.{◌∙◌, inr}
 use Rattle.std.proofs.lemmas.Result.{err_from_is_err_and}
 use Rattle.cs_rows.specs.Editing.{IsRemovalOf}
-use Rattle.cs_rows.proofs.CauseLemmas.{caused_on, removal_of}
+use Rattle.cs_rows.proofs.CauseLemmas.{caused_on, not_own, removal_of}
 use Rattle.cs_rows.proofs.editing.delete_row.Goals as goal
 
 pub returns-in_err-_schema-clause-caused : goal.returns-in_err-_schema-clause-caused
@@ -13,7 +13,7 @@ returns-in_err-_schema-clause-caused g c = λ honest.
 pub returns-in_err-_schema-clause-kept : goal.returns-in_err-_schema-clause-kept
 returns-in_err-_schema-clause-kept g c =
     let p = err_from_is_err_and c.from_residual.result c.from_residual.ensures.1 in
-    rw p.1 (g.B.Rows.keeps_so _ _ _ _ _ (λ held write h none. absurd none) c.in_err-_schema.ensures.kept)
+    rw (p.1, p.2) (g.B.Rows.keeps_so _ _ _ _ _ (λ held write h none. absurd none) c.in_err-_schema.ensures.kept)
 
 pub returns-in_err-former-clause-caused : goal.returns-in_err-former-clause-caused
 returns-in_err-former-clause-caused g c = λ honest.
@@ -27,7 +27,7 @@ pub returns-in_err-former-clause-kept : goal.returns-in_err-former-clause-kept
 returns-in_err-former-clause-kept g c =
     let Is = IsRemovalOf (g.B.Rows.state c.args.rows.now) c.args.table.now c.args.key.now in
     let p = err_from_is_err_and c.from_residual-in_err-former.result c.from_residual-in_err-former.ensures.1 in
-    rw p.1 (g.B.Rows.keeps_then Is _ _ _ _ (g.B.Rows.keeps_so _ Is _ _ _ (λ held write h none. absurd none) c.in_ok-_schema.ensures.kept)
+    rw (p.1, p.2) (g.B.Rows.keeps_then Is _ _ _ _ (g.B.Rows.keeps_so _ Is _ _ _ (λ held write h none. absurd none) c.in_ok-_schema.ensures.kept)
     (g.B.Rows.keeps_so _ Is _ _ _ (λ held write h none. absurd none) c.in_err-former.ensures.kept))
 
 pub returns-in_err-written-clause-kept : goal.returns-in_err-written-clause-kept
@@ -54,7 +54,7 @@ returns-in_err-remove-clause-kept g c =
     let kept = g.B.Rows.keeps_then Is _ _ _ _ (g.B.Rows.keeps_so _ Is _ _ _ (λ held write h none. absurd none) c.in_ok-_schema.ensures.kept)
     (g.B.Rows.keeps_so _ Is _ _ _ (λ held write h none. absurd none) c.in_ok-former.ensures.kept) in
     let p = err_from_is_err_and c.from_residual-in_err-remove.result c.from_residual-in_err-remove.ensures.1 in
-    rw p.1 (g.B.Rows.keeps_then Is _ _ _ _ kept
+    rw (p.1, p.2, not_own _ (inr c.in_err-remove.ensures.named)) (g.B.Rows.keeps_then Is _ _ _ _ kept
     (g.B.Rows.keeps_so _ Is _ _ _ (λ held write h is. let at = c.remove.ensures.was_honest h in removal_of _ _ c.args.table.now c.args.key.now held write (c.in_ok-former.ensures.same at ∙ c.in_ok-_schema.ensures.same (c.in_ok-former.ensures.was_honest at)) is) c.in_err-remove.ensures.kept))
 
 pub returns-clause-kept : goal.returns-clause-kept

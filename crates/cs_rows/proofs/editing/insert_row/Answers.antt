@@ -1,9 +1,9 @@
 -- `editing::insert_row`: what `put` asks for, the clauses `caused` and `kept`.
-use Rattle.std.proofs.Common.{◌∙◌, ap}
+use Rattle.std.proofs.Common.{◌∙◌, ap, inr}
 use Rattle.std.proofs.lemmas.Result.{err_from_is_err_and}
 use Rattle.cs_value.specs.State.{State, schema_at}
 use Rattle.cs_rows.specs.Editing.{IsPutOf}
-use Rattle.cs_rows.proofs.CauseLemmas.{caused_on, put_of}
+use Rattle.cs_rows.proofs.CauseLemmas.{caused_on, not_own, put_of}
 use Rattle.cs_rows.proofs.EditingLemmas.{fits_in}
 use Rattle.cs_rows.proofs.editing.insert_row.Goals as goal
 
@@ -15,7 +15,7 @@ returns-in_err-schema-clause-caused g c = λ honest.
 pub returns-in_err-schema-clause-kept : goal.returns-in_err-schema-clause-kept
 returns-in_err-schema-clause-kept g c =
     let p = err_from_is_err_and c.from_residual.result c.from_residual.ensures.1 in
-    rw p.1 (g.B.Rows.keeps_so _ _ _ _ _ (λ held write h none. absurd none) c.in_err-schema.ensures.kept)
+    rw (p.1, p.2) (g.B.Rows.keeps_so _ _ _ _ _ (λ held write h none. absurd none) c.in_err-schema.ensures.kept)
 
 pub returns-in_err-key-clause-kept : goal.returns-in_err-key-clause-kept
 returns-in_err-key-clause-kept g c =
@@ -34,7 +34,7 @@ pub returns-in_err-check_vacant-clause-kept : goal.returns-in_err-check_vacant-c
 returns-in_err-check_vacant-clause-kept g c =
     let Is = IsPutOf (g.B.Rows.state c.args.rows.now) c.args.table.now c.args.row.now in
     let p = err_from_is_err_and c.from_residual-in_err-check_vacant.result c.from_residual-in_err-check_vacant.ensures.1 in
-    rw p.1 (g.B.Rows.keeps_then Is _ _ _ _ (g.B.Rows.keeps_so _ Is _ _ _ (λ held write h none. absurd none) c.in_ok-schema.ensures.kept)
+    rw (p.1, p.2) (g.B.Rows.keeps_then Is _ _ _ _ (g.B.Rows.keeps_so _ Is _ _ _ (λ held write h none. absurd none) c.in_ok-schema.ensures.kept)
     (g.B.Rows.keeps_so _ Is _ _ _ (λ held write h none. absurd none) c.in_err-check_vacant.ensures.kept))
 
 pub returns-in_err-written-clause-kept : goal.returns-in_err-written-clause-kept
@@ -69,7 +69,7 @@ returns-in_err-put-clause-kept g c =
     let kept = g.B.Rows.keeps_then Is _ _ _ _ (g.B.Rows.keeps_so _ Is _ _ _ (λ held write h none. absurd none) c.in_ok-schema.ensures.kept)
     (g.B.Rows.keeps_so _ Is _ _ _ (λ held write h none. absurd none) c.in_ok-check_vacant.ensures.kept) in
     let p = err_from_is_err_and c.from_residual-in_err-put.result c.from_residual-in_err-put.ensures.1 in
-    rw p.1 (g.B.Rows.keeps_then Is _ _ _ _ kept (g.B.Rows.keeps_so _ Is _ _ _ (λ held write honest is.
+    rw (p.1, p.2, not_own _ (inr c.in_err-put.ensures.named)) (g.B.Rows.keeps_then Is _ _ _ _ kept (g.B.Rows.keeps_so _ Is _ _ _ (λ held write honest is.
     let at = c.put.ensures.was_honest honest in
     let before = c.in_ok-check_vacant.ensures.was_honest at in
     let same = c.in_ok-check_vacant.ensures.same at ∙ c.in_ok-schema.ensures.same before in

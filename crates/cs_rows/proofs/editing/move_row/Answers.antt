@@ -1,10 +1,10 @@
 -- `editing::move_row`: what `put` and `remove` ask for, the clauses `caused`, `moved` and `kept`.
-use Rattle.std.proofs.Common.{sym, subst, ◌∙◌, ap, inl}
+use Rattle.std.proofs.Common.{sym, subst, ◌∙◌, ap, inl, inr}
 use Rattle.std.proofs.lemmas.Result.{err_from_is_err_and}
 use Rattle.cs_value.specs.State.{State, with_row, without_row}
 use Rattle.cs_rows.specs.Rows.{Fits, IsDeclared}
 use Rattle.cs_rows.specs.Editing.{IsUpdateOf}
-use Rattle.cs_rows.proofs.CauseLemmas.{caused_on, clearing_of, put_of}
+use Rattle.cs_rows.proofs.CauseLemmas.{caused_on, clearing_of, not_own, put_of}
 use Rattle.cs_rows.proofs.MoveLemmas.{moved_either_way, declared_with}
 use Rattle.cs_rows.proofs.editing.move_row.Goals as goal
 
@@ -29,7 +29,7 @@ returns-in_err-check_vacant-clause-caused g c = λ honest.
 pub returns-in_err-check_vacant-clause-kept : goal.returns-in_err-check_vacant-clause-kept
 returns-in_err-check_vacant-clause-kept g c =
     let p = err_from_is_err_and c.from_residual.result c.from_residual.ensures.1 in
-    rw p.1 (g.B.Rows.keeps_so _ _ _ _ _ (λ held write h none. absurd none) c.in_err-check_vacant.ensures.kept)
+    rw (p.1, p.2) (g.B.Rows.keeps_so _ _ _ _ _ (λ held write h none. absurd none) c.in_err-check_vacant.ensures.kept)
 
 pub returns-in_err-written-clause-kept : goal.returns-in_err-written-clause-kept
 returns-in_err-written-clause-kept g c =
@@ -51,7 +51,7 @@ pub returns-in_err-put-clause-kept : goal.returns-in_err-put-clause-kept
 returns-in_err-put-clause-kept g c =
     let Is = IsUpdateOf (g.B.Rows.state c.args.rows.now) c.args.table.now c.args.key.now c.args.row.now in
     let p = err_from_is_err_and c.from_residual-in_err-put.result c.from_residual-in_err-put.ensures.1 in
-    rw p.1 (g.B.Rows.keeps_then Is _ _ _ _ (g.B.Rows.keeps_so _ Is _ _ _ (λ held write h none. absurd none) c.in_ok-check_vacant.ensures.kept) (g.B.Rows.keeps_so _ Is _ _ _ (λ held write honest is.
+    rw (p.1, p.2, not_own _ (inr c.in_err-put.ensures.named)) (g.B.Rows.keeps_then Is _ _ _ _ (g.B.Rows.keeps_so _ Is _ _ _ (λ held write h none. absurd none) c.in_ok-check_vacant.ensures.kept) (g.B.Rows.keeps_so _ Is _ _ _ (λ held write honest is.
     let at = c.put.ensures.was_honest honest in
     let same = c.in_ok-check_vacant.ensures.same at in
     let fits = subst (λ (s : State). Fits s c.args.table.now c.args.next.now c.args.row.now) (sym same) (c.requires.fits (c.in_ok-check_vacant.ensures.was_honest at)) in
@@ -84,7 +84,7 @@ returns-in_err-remove-clause-kept g c =
     let fits = subst (λ (s : State). Fits s c.args.table.now c.args.next.now c.args.row.now) (sym same) (c.requires.fits (c.in_ok-check_vacant.ensures.was_honest at)) in
     inl (put_of _ _ c.args.table.now c.args.next.now c.args.row.now held write same fits is)) c.in_ok-put.ensures.kept) in
     let p = err_from_is_err_and c.from_residual-in_err-remove.result c.from_residual-in_err-remove.ensures.1 in
-    rw p.1 (g.B.Rows.keeps_then Is _ _ _ _ kept (g.B.Rows.keeps_so _ Is _ _ _ (λ held write honest is.
+    rw (p.1, p.2, not_own _ (inr c.in_err-remove.ensures.named)) (g.B.Rows.keeps_then Is _ _ _ _ kept (g.B.Rows.keeps_so _ Is _ _ _ (λ held write honest is.
     let at = c.remove.ensures.was_honest honest in
     let before = c.in_ok-put.ensures.was_honest at in
     let put = c.in_ok-put.ensures.set at ∙ ap (λ (s : State). with_row s c.args.table.now c.args.next.now c.args.row.now) (c.in_ok-check_vacant.ensures.same before) in

@@ -17,7 +17,7 @@ returns-in_err-schema-clause-caused g c = λ honest.
 pub returns-in_err-schema-clause-kept : goal.returns-in_err-schema-clause-kept
 returns-in_err-schema-clause-kept g c =
     let p = err_from_is_err_and c.from_residual.result c.from_residual.ensures.1 in
-    rw p.1 (g.B.Rows.keeps_so _ _ _ _ _ (λ held write h none. absurd none) c.in_err-schema.ensures.kept)
+    rw (p.1, p.2) (g.B.Rows.keeps_so _ _ _ _ _ (λ held write h none. absurd none) c.in_err-schema.ensures.kept)
 
 pub returns-in_err-next-clause-kept : goal.returns-in_err-next-clause-kept
 returns-in_err-next-clause-kept g c =
@@ -36,7 +36,7 @@ pub returns-in_err-former-clause-kept : goal.returns-in_err-former-clause-kept
 returns-in_err-former-clause-kept g c =
     let Is = IsUpdateOf (g.B.Rows.state c.args.rows.now) c.args.table.now c.args.key.now c.args.row.now in
     let p = err_from_is_err_and c.from_residual-in_err-former.result c.from_residual-in_err-former.ensures.1 in
-    rw p.1 (g.B.Rows.keeps_then Is _ _ _ _ (g.B.Rows.keeps_so _ Is _ _ _ (λ held write h none. absurd none) c.in_ok-schema.ensures.kept)
+    rw (p.1, p.2) (g.B.Rows.keeps_then Is _ _ _ _ (g.B.Rows.keeps_so _ Is _ _ _ (λ held write h none. absurd none) c.in_ok-schema.ensures.kept)
     (g.B.Rows.keeps_so _ Is _ _ _ (λ held write h none. absurd none) c.in_err-former.ensures.kept))
 
 pub replace_row-requires : goal.replace_row-requires

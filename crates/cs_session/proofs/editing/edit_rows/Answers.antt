@@ -1,5 +1,5 @@
 -- `editing::edit_rows`: the clauses `well_formed`, `refused`, `caused` and `kept`.
-use Rattle.std.proofs.Common.{map, subst}
+use Rattle.std.proofs.Common.{Bool, true, false, map, subst}
 use Rattle.std.proofs.lemmas.Result.{IfErr-weaker, err_from_is_err_and}
 use Rattle.cs_value.specs.State.{State}
 use Rattle.cs_rows.specs.Editing.{IsWriteOf}
@@ -57,11 +57,15 @@ pub returns-in_err-written-clause-kept : goal.returns-in_err-written-clause-kept
 returns-in_err-written-clause-kept g c =
     let Is = IsWriteOf (g.B.Rows.state c.args.rows.now) c.args.edit.now in
     let p = err_from_is_err_and c.from_residual-in_err-written.result c.from_residual-in_err-written.ensures.1 in
+    let old = c.args.rows.now in
+    let new = c.edit_in.new.rows in
+    let refused : (own : Bool) → g.B.Rows.keeps Is own old new → g.B.Rows.keeps Is false old new = λ own.
+        elim own as (λ own. g.B.Rows.keeps Is own old new → g.B.Rows.keeps Is false old new) [ true ↦ λ kept. g.B.Rows.keeps_refused Is false old new kept | false ↦ λ kept. kept ] in
     rw p.1
-    (g.B.Rows.keeps_then Is _ _ _ _ (g.B.Rows.keeps_so _ Is _ _ _ (λ held write h none. absurd none) c.in_ok-check_named.ensures.kept)
+    (refused _ (g.B.Rows.keeps_then Is _ _ _ _ (g.B.Rows.keeps_so _ Is _ _ _ (λ held write h none. absurd none) c.in_ok-check_named.ensures.kept)
     (g.B.Rows.keeps_so _ Is _ _ _
     (λ held write honest is. subst (λ (s : State). IsWriteOf s c.args.edit.now held write) (c.in_ok-check_named.ensures.same (c.edit_in.ensures.was_honest honest)) is)
-    c.in_err-written.ensures.kept))
+    c.in_err-written.ensures.kept)))
 
 pub returns-clause-kept : goal.returns-clause-kept
 returns-clause-kept g c =

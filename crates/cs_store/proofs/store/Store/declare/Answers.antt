@@ -141,4 +141,4 @@ returns-in_err-commit-clause-caused g c clean =
     let Is = IsDeclarationOf (tables_in old.now) c.args.name.now (schema_of c.args.columns.now c.args.keys.now c.args.refuses.now) in
     let p = err_from_is_err_and c.from_residual-in_err-commit.result c.from_residual-in_err-commit.ensures.1 in
     rw (p.1, p.2, ← same) (so_caused _ _ c.in_err-commit.field-0.0 (commit_fails Is old begun mid last c.in_ok-batch.ensures.begun c.in_ok-batch.ensures.survives c.declare.ensures.kept mid_clean survives.counts
-    (c.in_ok-declare.ensures.leads mid_clean).inside) (c.in_err-commit.ensures.caused last_clean))
+    (c.in_ok-declare.ensures.leads mid_clean refl).inside) (c.in_err-commit.ensures.caused last_clean))

@@ -1,5 +1,5 @@
--- `store::Store::edit`: the clauses `edited`, `transacts` and `caused`.
-use Rattle.std.proofs.Common.{◌≡◌, rules}
+-- `store::Store::edit`: the clauses `edited`, `refused`, `transacts` and `caused`.
+use Rattle.std.proofs.Common.{◌≡◌, ◌⊎◌, rules}
 use Rattle.std.specs.Prelude.{map, IfErr}
 use Rattle.sqlite.specs.Held.{state}
 use Rattle.cs_rows.specs.Editing.{EditsInto, edited, written_of}
@@ -9,11 +9,11 @@ use Rattle.cs_store_records.specs.Records.{KeepsContent, KeepsCrash}
 use Rattle.cs_store_tables.specs.Store.{tables_in}
 use Rattle.cs_store.proofs.CrashLemmas.{made_tables}
 use Rattle.cs_store.proofs.TransactLemmas.{unbegun_transacts, dropped_transacts, uncommitted_transacts, committed_transacts}
-use Rattle.std.proofs.Common.{Ok, refl, subst}
+use Rattle.std.proofs.Common.{Ok, Err, refl, subst}
 use Rattle.std.proofs.lemmas.Result.{err_from_is_err_and}
 use Rattle.cs_value.specs.State.{State}
 use Rattle.cs_rows.specs.Editing.{IsWriteOf}
-use Rattle.cs_rows.specs.Faults.{IsCaused}
+use Rattle.cs_rows.specs.Faults.{IsCaused, IsResource}
 use Rattle.cs_store_tables.specs.Failing.{BatchFails, BeginFails, Writes}
 use Rattle.cs_store_tables.proofs.FailureLemmas.{so_caused}
 use Rattle.cs_store.proofs.CrashLemmas.{begun_tables}
@@ -29,6 +29,20 @@ returns-clause-edited g c =
     let same : c.commit.new.self.0 ≡ c.self-2-1.given.0 = search rules in
     rw (← same) (made_tables old begun mid last (λ before after. edited before c.args.edit.now ≡ Ok (record { state = after; written = map written_of c.in_ok-written.written.items }))
     c.in_ok-batch.ensures.begun c.edit_in.ensures.kept.1 c.commit.ensures.atomic.survives c.in_ok-written.ensures.edited c.in_ok-commit.ensures.committed)
+
+pub returns-in_err-written-clause-refused : goal.returns-in_err-written-clause-refused
+returns-in_err-written-clause-refused g c clean =
+    let old = state g.S.Store c.args.self.now in
+    let begun = state g.S.Store c.in_ok-batch.batch.store.now in
+    let mid = state g.S.Store c.edit_in.new.rows.store.now in
+    let last = state g.S.Store c.drop-batch.new.self.0 in
+    let same : c.drop-batch.new.self.0 ≡ c.self-in_err-written-1.given.0 = search rules in
+    let last_clean : HasCleanDisk last = rw same clean in
+    let mid_clean = was_clean mid last c.drop-batch.ensures.survives last_clean in
+    let tables = begun_tables old begun mid c.in_ok-batch.ensures.begun c.edit_in.ensures.kept.1 mid_clean in
+    let e = c.in_err-written.field-0.0 in
+    let p = err_from_is_err_and c.from_residual-in_err-written.result c.from_residual-in_err-written.ensures.1 in
+    rw (p.1, p.2) (subst (λ (s : State). (edited s c.args.edit.now ≡ Err e) ⊎ IsResource e) tables (c.in_err-written.ensures.refused mid_clean))
 
 pub returns-in_err-batch-clause-transacts : goal.returns-in_err-batch-clause-transacts
 returns-in_err-batch-clause-transacts g c =

@@ -1,5 +1,4 @@
 -- `store::Store::into_transaction`: the clause `leaves`.
-use Rattle.sqlite.specs.Held.{state}
 use Rattle.cs_store.proofs.CrashLemmas.{begun_left}
 use Rattle.cs_store.proofs.store.Store.into_transaction.Goals as goal
 

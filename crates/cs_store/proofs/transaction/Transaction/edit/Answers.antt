@@ -1,100 +1,93 @@
--- `transaction::Transaction::edit`: what `go_back` asks for, the clauses `edited`, `within`, `caused` and `named`.
-use Rattle.std.proofs.Common.{◌≡◌, IsTrue, Ok, inr, refl, sym, subst}
-use Rattle.std.specs.Prelude.{map}
+-- `transaction::Transaction::edit`: the clauses `edited`, `refused`, `within` and `caused`.
+use Rattle.std.proofs.Common.{◌≡◌, ◌⊎◌, IsTrue, Ok, Err, IfErr, Vec, Global, Bool, true, inl, inr, subst}
+use Rattle.std.specs.Prelude.{IfOk, map}
 use Rattle.std.proofs.lemmas.Result.{err_from_is_err_and}
 use Rattle.sqlite.specs.Effect.{Database}
 use Rattle.sqlite.specs.Held.{state}
-use Rattle.sqlite.specs.State.{State, HasCleanDisk}
+use Rattle.sqlite.specs.State.{HasCleanDisk}
+use Rattle.cs_rows.specs.declared.edit.Written.{Written}
 use Rattle.cs_rows.specs.Editing.{EditsInto, IsWriteOf, edited, written_of}
-use Rattle.cs_rows.specs.Faults.{IsCaused}
-use Rattle.cs_value.specs.State as tables
+use Rattle.cs_rows.specs.Faults.{IsCaused, IsReadRefusal, IsResource, is_answered}
+use Rattle.cs_rows.proofs.CauseLemmas.{caused_on, caused_so}
 use Rattle.cs_store_tables.specs.Failing.{BatchFails, Writes}
 use Rattle.cs_store_tables.specs.Laws.{was_clean}
 use Rattle.cs_store_tables.specs.Store.{tables_in}
-use Rattle.cs_store_tables.proofs.FailureLemmas.{so_caused}
-use Rattle.cs_store.proofs.WithinLemmas.{back_within, ended_within, released_within, unreleased_within, goes_back_to, mark_fails, mark_there, marked_fails, release_fails}
+use Rattle.cs_store.specs.Within.{EndsCall}
+use Rattle.cs_store.proofs.WithinLemmas.{answered_goes_on, answered_inside, call_within, ended_within, makes_inside, mark_there, marked_fails, release_fails, shown_holds, unreleased_within}
 use Rattle.cs_store.proofs.transaction.Transaction.edit.Goals as goal
 
 pub returns-in_err-mark-clause-within : goal.returns-in_err-mark-clause-within
 returns-in_err-mark-clause-within g c =
     let p = err_from_is_err_and c.from_residual.result c.from_residual.ensures.1 in
-    rw (p.1, p.2) (ended_within _ _ _ _ c.mark.ensures.survives c.in_err-mark.ensures.undone)
+    rw (p.1, p.2) (ended_within _ _ IsReadRefusal _ _ (λ clean. inl (inr c.in_err-mark.ensures.refused)) c.mark.ensures.survives c.in_err-mark.ensures.undone)
 
-pub go_back-requires : goal.go_back-requires
-go_back-requires g c =
+pub returns-in_err-end_call-clause-within : goal.returns-in_err-end_call-clause-within
+returns-in_err-end_call-clause-within g c =
     let old = state g.S.Store c.args.self.now in
     let marked = state g.S.Store c.mark.new.self in
-    let mid = state g.S.Store c.edit_in.new.rows in
-    goes_back_to old marked mid c.in_ok-mark.ensures.marked c.mark.ensures.survives c.edit_in.ensures.kept.0 c.store_law.ensures
+    let mid = state g.S.Store c.edit_in-result.new.rows in
+    let new = state g.S.Store c.end_call.new.self in
+    let p = err_from_is_err_and c.from_residual-in_err-end_call.result c.from_residual-in_err-end_call.ensures.1 in
+    rw (p.1, p.2) (unreleased_within old marked mid c.in_ok-mark.ensures.marked c.mark.ensures.survives c.edit_in-result.ensures.kept.0 new _ (EditsInto (tables_in old.now) c.args.edit.now)
+    IsReadRefusal (inr c.in_err-end_call.ensures.refused) c.end_call.ensures.survives c.in_err-end_call.ensures.undone)
 
-pub returns-in-Err-clause-within : goal.returns-in-Err-clause-within
-returns-in-Err-clause-within g c =
+pub returns-in_err-end_call-clause-caused : goal.returns-in_err-end_call-clause-caused
+returns-in_err-end_call-clause-caused g c clean =
     let old = state g.S.Store c.args.self.now in
     let marked = state g.S.Store c.mark.new.self in
-    let mid = state g.S.Store c.edit_in.new.rows in
-    let new = state g.S.Store c.go_back.new.self in
-    back_within old marked mid c.in_ok-mark.ensures.marked c.mark.ensures.survives c.edit_in.ensures.kept.0 new c.in-Err.error (EditsInto (tables_in old.now) c.args.edit.now) c.go_back.ensures.survives
-    (λ clean inside. c.go_back.ensures.back old.marks old.now (λ k. mark_there old marked mid c.in_ok-mark.ensures.marked c.mark.ensures.survives c.edit_in.ensures.kept.0 (was_clean mid new c.go_back.ensures.survives clean) k) clean inside)
-    c.go_back.ensures.undone
+    let mid = state g.S.Store c.edit_in-result.new.rows in
+    let new = state g.S.Store c.end_call.new.self in
+    caused_on c.from_residual-in_err-end_call.result _ _ c.in_err-end_call.field-0.0 c.from_residual-in_err-end_call.ensures.1
+    (λ why. release_fails old marked mid c.in_ok-mark.ensures.marked c.mark.ensures.survives c.edit_in-result.ensures.kept.0 new _ why (was_clean mid new c.end_call.ensures.survives clean) c.end_call.ensures.survives.counts)
+    (c.in_err-end_call.ensures.caused clean)
 
-pub returns-in-Err-clause-caused : goal.returns-in-Err-clause-caused
-returns-in-Err-clause-caused g c clean =
+pub returns-clause-edited : goal.returns-clause-edited
+returns-clause-edited g c clean =
     let old = state g.S.Store c.args.self.now in
     let marked = state g.S.Store c.mark.new.self in
-    let mid = state g.S.Store c.edit_in.new.rows in
-    let new = state g.S.Store c.go_back.new.self in
-    let mid_clean = was_clean mid new c.go_back.ensures.survives clean in
-    let shown = (c.in_ok-mark.ensures.marked (was_clean marked mid c.edit_in.ensures.kept.0.crash mid_clean)).1 in
-    let failed = subst (λ (db : Database). IsCaused (BatchFails (Writes (IsWriteOf (tables_in db) c.args.edit.now)) marked mid) c.in-Err.error) shown.now_is (c.in-Err.ensures.caused mid_clean) in
-    so_caused _ _ c.in-Err.error (λ why. marked_fails old marked mid c.in_ok-mark.ensures.marked c.mark.ensures.survives c.edit_in.ensures.kept.0 new _ why mid_clean c.go_back.ensures.survives) failed
+    let mid = state g.S.Store c.edit_in-result.new.rows in
+    let new = state g.S.Store c.end_call.new.self in
+    let r = c.edit_in-result.result in
+    let keeps = c.edit_in-result.ensures.kept in
+    let before = was_clean mid new c.end_call.ensures.survives clean in
+    let shown = (c.in_ok-mark.ensures.marked (was_clean marked mid keeps.0.crash before)).1 in
+    let Makes : Database → Vec Written Global → Database → Type 0 = λ one w two. edited (tables_in one) c.args.edit.now ≡ Ok (record { state = tables_in two; written = map written_of w.items }) in
+    shown_holds r (Makes old.now) old.marks old.now mid new (answered_inside r (IsTrue mid.in_transaction) (λ answered. (keeps.1 answered before).inside shown.mode))
+    (subst (λ (b : Bool). EndsCall b old.marks old.now mid new) c.is_ok.ensures.value (c.in_ok-end_call.ensures.ends old.marks old.now (mark_there old marked mid c.in_ok-mark.ensures.marked c.mark.ensures.survives keeps.0 before) clean))
+    (subst (λ (db : Database). IfOk r (λ w. Makes db w mid.now)) shown.now_is (c.edit_in-result.ensures.edited before))
 
-pub returns-in_err-release-in-Ok-clause-within : goal.returns-in_err-release-in-Ok-clause-within
-returns-in_err-release-in-Ok-clause-within g c =
+pub returns-clause-refused : goal.returns-clause-refused
+returns-clause-refused g c clean =
+    let marked = state g.S.Store c.mark.new.self in
+    let mid = state g.S.Store c.edit_in-result.new.rows in
+    let new = state g.S.Store c.end_call.new.self in
+    let before = was_clean mid new c.end_call.ensures.survives clean in
+    let shown = (c.in_ok-mark.ensures.marked (was_clean marked mid c.edit_in-result.ensures.kept.0.crash before)).1 in
+    subst (λ (db : Database). IfErr c.edit_in-result.result (λ e. (edited (tables_in db) c.args.edit.now ≡ Err e) ⊎ IsResource e)) shown.now_is (c.edit_in-result.ensures.refused before)
+
+pub returns-clause-caused : goal.returns-clause-caused
+returns-clause-caused g c clean =
     let old = state g.S.Store c.args.self.now in
     let marked = state g.S.Store c.mark.new.self in
-    let mid = state g.S.Store c.edit_in.new.rows in
-    let new = state g.S.Store c.release.new.self in
-    let p = err_from_is_err_and c.from_residual-in_err-release-in-Ok.result c.from_residual-in_err-release-in-Ok.ensures.1 in
-    rw (p.1, p.2) (unreleased_within old marked mid c.in_ok-mark.ensures.marked c.mark.ensures.survives c.edit_in.ensures.kept.0 new _ (EditsInto (tables_in old.now) c.args.edit.now) c.release.ensures.survives c.in_err-release-in-Ok.ensures.undone)
+    let mid = state g.S.Store c.edit_in-result.new.rows in
+    let new = state g.S.Store c.end_call.new.self in
+    let r = c.edit_in-result.result in
+    let before = was_clean mid new c.end_call.ensures.survives clean in
+    let shown = (c.in_ok-mark.ensures.marked (was_clean marked mid c.edit_in-result.ensures.kept.0.crash before)).1 in
+    let failed = subst (λ (db : Database). IfErr r (IsCaused (BatchFails (Writes (IsWriteOf (tables_in db) c.args.edit.now)) marked mid))) shown.now_is (c.edit_in-result.ensures.caused before) in
+    caused_so r _ _ (λ why. marked_fails old marked mid c.in_ok-mark.ensures.marked c.mark.ensures.survives c.edit_in-result.ensures.kept.0 new _ why before c.end_call.ensures.survives) failed
 
-pub returns-in_err-release-in-Ok-clause-caused : goal.returns-in_err-release-in-Ok-clause-caused
-returns-in_err-release-in-Ok-clause-caused g c clean =
+pub returns-clause-within : goal.returns-clause-within
+returns-clause-within g c =
     let old = state g.S.Store c.args.self.now in
     let marked = state g.S.Store c.mark.new.self in
-    let mid = state g.S.Store c.edit_in.new.rows in
-    let new = state g.S.Store c.release.new.self in
-    let p = err_from_is_err_and c.from_residual-in_err-release-in-Ok.result c.from_residual-in_err-release-in-Ok.ensures.1 in
-    rw (p.1, p.2) (so_caused _ _ c.in_err-release-in-Ok.field-0.0 (λ why. release_fails old marked mid c.in_ok-mark.ensures.marked c.mark.ensures.survives c.edit_in.ensures.kept.0 new _ why
-    (was_clean mid new c.release.ensures.survives clean) c.release.ensures.survives.counts) (c.in_err-release-in-Ok.ensures.caused clean))
-
-pub returns-in_err-release-in-Ok-clause-named : goal.returns-in_err-release-in-Ok-clause-named
-returns-in_err-release-in-Ok-clause-named g c =
-    let p = err_from_is_err_and c.from_residual-in_err-release-in-Ok.result c.from_residual-in_err-release-in-Ok.ensures.1 in
-    rw (p.1, p.2) (inr (inr (inr (inr (inr (inr (inr c.in_err-release-in-Ok.ensures.refused)))))))
-
-pub returns-in_ok-release-in-Ok-clause-edited : goal.returns-in_ok-release-in-Ok-clause-edited
-returns-in_ok-release-in-Ok-clause-edited g c clean =
-    let old = state g.S.Store c.args.self.now in
-    let marked = state g.S.Store c.mark.new.self in
-    let mid = state g.S.Store c.edit_in.new.rows in
-    let new = state g.S.Store c.release.new.self in
-    let before = was_clean mid new c.release.ensures.survives clean in
-    let keeps = c.edit_in.ensures.kept.0 in
-    let shown = (c.in_ok-mark.ensures.marked (was_clean marked mid keeps.crash before)).1 in
-    let inside : IsTrue mid.in_transaction = (c.in-Ok.ensures.kept.1 refl before).inside shown.mode in
-    let released = c.in_ok-release-in-Ok.ensures.released old.marks old.now (mark_there old marked mid c.in_ok-mark.ensures.marked c.mark.ensures.survives keeps before inside) clean in
-    let Makes : Database → Database → Type 0 = λ one two. edited (tables_in one) c.args.edit.now ≡ Ok (record { state = tables_in two; written = map written_of c.in-Ok.written.items }) in
-    subst (Makes old.now) (sym released.0.now_is) (subst (λ one. Makes one mid.now) shown.now_is (c.in-Ok.ensures.edited before))
-
-pub returns-in_ok-release-in-Ok-clause-within : goal.returns-in_ok-release-in-Ok-clause-within
-returns-in_ok-release-in-Ok-clause-within g c =
-    let old = state g.S.Store c.args.self.now in
-    let marked = state g.S.Store c.mark.new.self in
-    let mid = state g.S.Store c.edit_in.new.rows in
-    let new = state g.S.Store c.release.new.self in
-    let starts = c.mark.ensures.survives in
-    let keeps = c.edit_in.ensures.kept.0 in
-    let inside : HasCleanDisk mid → IsTrue mid.in_transaction = λ now. (c.in-Ok.ensures.kept.1 refl now).inside (c.in_ok-mark.ensures.marked (was_clean marked mid keeps.crash now)).1.mode in
-    released_within old marked mid c.in_ok-mark.ensures.marked starts keeps new c.in-Ok.written (λ before. EditsInto before c.args.edit.now) c.release.ensures.survives inside
-    (λ now. (map written_of c.in-Ok.written.items, c.in-Ok.ensures.edited now))
-    (λ now. let before = was_clean mid new c.release.ensures.survives now in c.in_ok-release-in-Ok.ensures.released old.marks old.now (mark_there old marked mid c.in_ok-mark.ensures.marked starts keeps before (inside before)) now)
+    let mid = state g.S.Store c.edit_in-result.new.rows in
+    let new = state g.S.Store c.end_call.new.self in
+    let r = c.edit_in-result.result in
+    let keeps = c.edit_in-result.ensures.kept in
+    let inside : HasCleanDisk mid → is_answered r ≡ true → IsTrue mid.in_transaction = λ clean answered.
+    (keeps.1 answered clean).inside (c.in_ok-mark.ensures.marked (was_clean marked mid keeps.0.crash clean)).1.mode in
+    call_within old marked mid c.in_ok-mark.ensures.marked c.mark.ensures.survives keeps.0 new r (λ before. EditsInto before c.args.edit.now) IsReadRefusal c.end_call.ensures.survives
+    (λ clean. makes_inside r _ _ _ (λ w made. (map written_of w.items, made)) (answered_inside r _ (inside clean)) (c.edit_in-result.ensures.edited clean))
+    (λ clean. answered_goes_on r _ (inside clean))
+    (λ before db marks clean. subst (λ (b : Bool). EndsCall b before db mid new) c.is_ok.ensures.value (c.in_ok-end_call.ensures.ends before db marks clean))
