@@ -25,7 +25,7 @@ use Rattle.cs_store_bytes.specs.Stored.{version, Stores}
 use Rattle.cs_store_tables.specs.Store.{HoldsTables, IsDamaged, Adopts, tables_in}
 use Rattle.cs_store.specs.Opening.{IsLeftIn, IsFoundIn, OpensFiles, RefusesFound}
 use Rattle.cs_store_tables.specs.Crash.{MayLeave, LeavesOnly, IsLeftOf}
-use Rattle.cs_store.proofs.AdoptionLemmas.{nothing_held, vacant_holds, damaged_none}
+use Rattle.cs_store_adoption.proofs.AdoptionLemmas.{nothing_held, vacant_holds, damaged_none}
 use Rattle.cs_store_bytes.proofs.StateOf.{stored_once}
 
 -- trees list one schema

@@ -1,5 +1,3 @@
-pub mod AdoptionFailures
-pub mod AdoptionLemmas
 pub mod CrashLemmas
 pub mod DeclareLemmas
 pub mod FailureLemmas

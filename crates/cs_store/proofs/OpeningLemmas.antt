@@ -17,7 +17,7 @@ use Rattle.cs_store_records.specs.Records.{KeepsContent, LacksRecords}
 use Rattle.cs_store_tables.specs.Store.{HoldsTables, IsDamaged, Adopts, tables_in}
 use Rattle.cs_store_tables.specs.Crash.{MayLeave, LeavesTakenOver}
 use Rattle.sqlite.proofs.ListingLemmas.{empty_is_sound}
-use Rattle.cs_store.proofs.AdoptionLemmas.{empty_lacks, nothing_held, nothing_damaged}
+use Rattle.cs_store_adoption.proofs.AdoptionLemmas.{empty_lacks, nothing_held, nothing_damaged}
 use Rattle.cs_store.specs.Opening.{IsFoundIn, OpensFiles, RefusesFound}
 use Rattle.cs_store.proofs.LeftLemmas.{listed_once}
 

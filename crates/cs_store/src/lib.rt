@@ -14,7 +14,6 @@
 //! The names of `cs_rows` are passed on.
 #![tactic(auto)]
 
-mod adoption;
 mod batch;
 mod laws;
 mod opening;

@@ -22,9 +22,9 @@ ghost use Rattle.cs_store_tables.specs.Store.{Adopts, Begins, HoldsTables, IsAtR
 ghost use Rattle.cs_store_tables.specs.Store.{RefusesShut, tables_in};
 ghost use Rattle.cs_store.specs.Transacts.{Transacts};
 
-use crate::adoption::adopt;
 use crate::batch::SqlBatch;
 use cs_rows::{Edit, Schema, StoreError, Written, edit_in};
+use cs_store_adoption::adopt;
 use cs_store_records::{RecordsError, transactions};
 use cs_store_tables::{KnownTable, refused};
 use cs_value::{Key, Row, is_table_name};

@@ -1,5 +1,5 @@
 -- `applying::apply_rows`: the clauses `refused`, `well_formed`, `caused` and `kept`.
-use Rattle.std.proofs.Common.{map}
+use Rattle.std.proofs.Common.{false, map}
 use Rattle.std.specs.Fn.{FnReturnsAt}
 use Rattle.std.proofs.lemmas.Result.{err_from_is_err_and}
 use Rattle.cs_apply_rows.specs.declared.running.Direction.TheVariants.{Forward}
@@ -8,6 +8,7 @@ use Rattle.cs_session.specs.Views.{attached_of}
 use Rattle.cs_session.proofs.CauseLemmas.{caused_on, run_caused_on}
 use Rattle.cs_session.proofs.NotesLemmas.{recorded_are}
 use Rattle.cs_session.proofs.RecordLemmas.{refuses_applying, refuses_noting, applies_formers}
+use Rattle.cs_session.proofs.KeptLemmas.{refused_keeps}
 use Rattle.cs_session.proofs.applying.apply_rows.Goals as goal
 
 pub returns-in_err-report-clause-refused : goal.returns-in_err-report-clause-refused
@@ -57,8 +58,9 @@ returns-in_err-report-clause-kept g c =
     let Is = IsFileWrite Forward c.args.file.now in
     let p = err_from_is_err_and c.from_residual-in_err-report.result c.from_residual-in_err-report.ensures.1 in
     rw p.1
+    (refused_keeps (g.B.Rows.keeps Is) (λ a b. g.B.Rows.keeps_refused Is false a b) _ _ _
     (g.B.Rows.keeps_then Is _ _ _ _ (g.B.Rows.keeps_so _ Is _ _ _ (λ held write h none. absurd none) c.in_ok-check_tables.ensures.kept)
-    c.in_err-report.ensures.kept)
+    c.in_err-report.ensures.kept))
 
 pub returns-in_err-note_all-clause-kept : goal.returns-in_err-note_all-clause-kept
 returns-in_err-note_all-clause-kept g c =

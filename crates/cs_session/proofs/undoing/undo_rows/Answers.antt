@@ -1,5 +1,5 @@
 -- `undoing::undo_rows`: the clauses `refused`, `undone`, `caused` and `kept`.
-use Rattle.std.proofs.Common.{List, map, rules, ap, subst}
+use Rattle.std.proofs.Common.{false, List, map, rules, ap, subst}
 use Rattle.std.proofs.lemmas.Result.{err_from_is_err_and}
 use Rattle.cs_wire.specs.Changeset.{GroupData, file_bytes}
 use Rattle.cs_apply_rows.specs.declared.running.Direction.TheVariants.{Inverse}
@@ -9,6 +9,7 @@ use Rattle.cs_session.specs.Undoing.{IsUndoWrite}
 use Rattle.cs_session.specs.Views.{attached_of}
 use Rattle.cs_session.proofs.CauseLemmas.{caused_on, run_caused_on}
 use Rattle.cs_session.proofs.OutcomeLemmas.{undoes, refuses_undo}
+use Rattle.cs_session.proofs.KeptLemmas.{refused_keeps}
 use Rattle.cs_session.proofs.undoing.undo_rows.Goals as goal
 
 pub returns-in_err-run_changeset_in-clause-refused : goal.returns-in_err-run_changeset_in-clause-refused
@@ -58,12 +59,13 @@ returns-in_err-run_changeset_in-clause-kept g c =
     let Is = IsUndoWrite (map attached_of c.args.tables.now) (g.B.Rows.state c.args.rows.now) in
     let p = err_from_is_err_and c.from_residual-in_err-run_changeset_in.result c.from_residual-in_err-run_changeset_in.ensures.1 in
     rw p.1
+    (refused_keeps (g.B.Rows.keeps Is) (λ a b. g.B.Rows.keeps_refused Is false a b) _ _ _
     (g.B.Rows.keeps_then Is _ _ _ _ (g.B.Rows.keeps_so _ Is _ _ _ (λ held write h none. absurd none) c.in_ok-changeset.ensures.kept)
     (g.B.Rows.keeps_so _ Is _ _ _
     (λ held write honest is.
     let before = c.run_changeset_in.ensures.was_honest honest in
     (c.in_ok-changeset.ensures.attached before, subst (λ (groups : List GroupData). IsRunWrite (directed Inverse groups) held write) (c.in_ok-changeset.ensures.made before) is))
-    c.in_err-run_changeset_in.ensures.kept))
+    c.in_err-run_changeset_in.ensures.kept)))
 
 pub returns-clause-kept : goal.returns-clause-kept
 returns-clause-kept g c =

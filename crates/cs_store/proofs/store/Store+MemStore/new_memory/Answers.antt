@@ -1,7 +1,7 @@
 -- `store::Store+MemStore::new_memory`: the clauses `empty`, `at_rest` and `named`.
 use Rattle.sqlite.specs.Held.{state}
 use Rattle.sqlite.specs.Steps.{over_memory}
-use Rattle.cs_store.proofs.AdoptionLemmas.{memory_honest, empty_lacks, nothing_held, nothing_damaged}
+use Rattle.cs_store_adoption.proofs.AdoptionLemmas.{memory_honest, empty_lacks, nothing_held, nothing_damaged}
 use Rattle.cs_store.proofs.store.Store+MemStore.new_memory.Goals as goal
 
 pub returns-in-Ok-adopt-clause-empty : goal.returns-in-Ok-adopt-clause-empty

@@ -1,7 +1,7 @@
 -- `adoption::write_version`: the clause `set_up`.
 use Rattle.sqlite.specs.Held.{state}
-use Rattle.cs_store.proofs.AdoptionLemmas.{writes_version}
-use Rattle.cs_store.proofs.adoption.write_version.Goals as goal
+use Rattle.cs_store_adoption.proofs.AdoptionLemmas.{writes_version}
+use Rattle.cs_store_adoption.proofs.adoption.write_version.Goals as goal
 
 pub returns-in-Ok-clause-set_up : goal.returns-in-Ok-clause-set_up
 returns-in-Ok-clause-set_up g c clean =

@@ -2,13 +2,13 @@
 use Rattle.sqlite.specs.Held.{state}
 use Rattle.cs_store_tables.specs.Laws.{was_clean}
 use Rattle.cs_store_tables.specs.Store.{HoldsNone}
-use Rattle.cs_store.proofs.AdoptionLemmas.{same_damage}
+use Rattle.cs_store_adoption.proofs.AdoptionLemmas.{same_damage}
 use Rattle.std.proofs.Common.{sym, subst}
 use Rattle.cs_rows.specs.Faults.{IsCaused}
 use Rattle.cs_store_tables.specs.Failing.{SetUpFails}
 use Rattle.cs_store_tables.proofs.FailureLemmas.{caused_so}
-use Rattle.cs_store.proofs.AdoptionFailures.{read_refused, set_up_from}
-use Rattle.cs_store.proofs.adoption.check_store.Goals as goal
+use Rattle.cs_store_adoption.proofs.AdoptionFailures.{read_refused, set_up_from}
+use Rattle.cs_store_adoption.proofs.adoption.check_store.Goals as goal
 
 pub returns-in-Ok-clause-refused : goal.returns-in-Ok-clause-refused
 returns-in-Ok-clause-refused g c clean =

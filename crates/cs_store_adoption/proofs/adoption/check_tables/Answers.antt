@@ -8,12 +8,12 @@ use Rattle.cs_store_records.specs.Records.{HoldsRecords, records_in}
 use Rattle.cs_store_bytes.specs.Valid.{AreValid}
 use Rattle.cs_store_bytes.specs.Versions.{bytes_of}
 use Rattle.cs_store_bytes.proofs.CheckLemmas.{valid_tables}
-use Rattle.cs_store.proofs.AdoptionLemmas.{none_held, scanned_holds, scanned_valid, valid_passes}
+use Rattle.cs_store_adoption.proofs.AdoptionLemmas.{none_held, scanned_holds, scanned_valid, valid_passes}
 use Rattle.std.proofs.Common.{◌∙◌}
 use Rattle.cs_rows.specs.Faults.{IsCaused}
 use Rattle.cs_store_tables.specs.Failing.{SetUpFails}
-use Rattle.cs_store.proofs.AdoptionFailures.{read_refused, version_refused}
-use Rattle.cs_store.proofs.adoption.check_tables.Goals as goal
+use Rattle.cs_store_adoption.proofs.AdoptionFailures.{read_refused, version_refused}
+use Rattle.cs_store_adoption.proofs.adoption.check_tables.Goals as goal
 
 pub returns-in_err-schemas-clause-refused : goal.returns-in_err-schemas-clause-refused
 returns-in_err-schemas-clause-refused g c clean =

@@ -3,12 +3,12 @@ use Rattle.std.proofs.Common.{Err}
 use Rattle.sqlite.specs.Held.{state}
 use Rattle.cs_store_tables.specs.Laws.{was_clean}
 use Rattle.cs_store_tables.specs.Store.{IsDamaged}
-use Rattle.cs_store.proofs.AdoptionLemmas.{adopted_survives, same_damage}
+use Rattle.cs_store_adoption.proofs.AdoptionLemmas.{adopted_survives, same_damage}
 use Rattle.std.proofs.Common.{inr}
 use Rattle.cs_store_tables.specs.Failing.{AdoptFails, SetUpFails}
 use Rattle.cs_store_tables.proofs.FailureLemmas.{so_caused}
-use Rattle.cs_store.proofs.AdoptionFailures.{set_up_from, set_up_to}
-use Rattle.cs_store.proofs.adoption.adopt.Goals as goal
+use Rattle.cs_store_adoption.proofs.AdoptionFailures.{set_up_from, set_up_to}
+use Rattle.cs_store_adoption.proofs.adoption.adopt.Goals as goal
 
 pub returns-in-Err-set_up-clause-refused : goal.returns-in-Err-set_up-clause-refused
 returns-in-Err-set_up-clause-refused g c clean =

@@ -1,13 +1,13 @@
 -- `adoption::make_store`: the clauses `set_up` and `caused`.
 use Rattle.sqlite.specs.Held.{state}
 use Rattle.cs_store_tables.specs.Laws.{was_clean}
-use Rattle.cs_store.proofs.AdoptionLemmas.{made_then}
+use Rattle.cs_store_adoption.proofs.AdoptionLemmas.{made_then}
 use Rattle.cs_store_tables.proofs.WriteLemmas.{on_ok_then}
 use Rattle.std.proofs.Common.{inr, sym, subst}
 use Rattle.cs_rows.specs.Faults.{IsCaused}
 use Rattle.cs_store_tables.specs.Failing.{HasMade, SetUpFails}
-use Rattle.cs_store.proofs.AdoptionFailures.{making_refused, version_refused}
-use Rattle.cs_store.proofs.adoption.make_store.Goals as goal
+use Rattle.cs_store_adoption.proofs.AdoptionFailures.{making_refused, version_refused}
+use Rattle.cs_store_adoption.proofs.adoption.make_store.Goals as goal
 
 pub returns-in-Ok-clause-set_up : goal.returns-in-Ok-clause-set_up
 returns-in-Ok-clause-set_up g c clean =

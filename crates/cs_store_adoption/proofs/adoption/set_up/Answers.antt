@@ -5,7 +5,7 @@ use Rattle.std.proofs.Common.{inr, subst}
 use Rattle.cs_store_records.specs.Layout.{IsDeclaration}
 use Rattle.cs_store_records.specs.Records.{IsUnsupported}
 use Rattle.cs_store_tables.specs.Failing.{unsupported}
-use Rattle.cs_store.proofs.adoption.set_up.Goals as goal
+use Rattle.cs_store_adoption.proofs.adoption.set_up.Goals as goal
 
 pub returns-in-Ok-Unsupported-clause-refused : goal.returns-in-Ok-Unsupported-clause-refused
 returns-in-Ok-Unsupported-clause-refused g c clean = inr (inr (refused_for cause.Other))

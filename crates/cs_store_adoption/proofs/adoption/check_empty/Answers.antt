@@ -5,12 +5,12 @@ use Rattle.sqlite.specs.Effect.{Database}
 use Rattle.cs_store_tables.specs.Laws.{was_clean}
 use Rattle.cs_store_records.specs.Records.{HoldsRecords, record_rows, records_in}
 use Rattle.cs_store_bytes.specs.Valid.{AreValid}
-use Rattle.cs_store.proofs.AdoptionLemmas.{none_passes, scanned_holds, unnamed_held}
+use Rattle.cs_store_adoption.proofs.AdoptionLemmas.{none_passes, scanned_holds, unnamed_held}
 use Rattle.std.proofs.Common.{◌∙◌}
 use Rattle.cs_rows.specs.Faults.{IsCaused}
 use Rattle.cs_store_tables.specs.Failing.{SetUpFails}
-use Rattle.cs_store.proofs.AdoptionFailures.{read_refused, version_refused}
-use Rattle.cs_store.proofs.adoption.check_empty.Goals as goal
+use Rattle.cs_store_adoption.proofs.AdoptionFailures.{read_refused, version_refused}
+use Rattle.cs_store_adoption.proofs.adoption.check_empty.Goals as goal
 
 pub write_version-requires-clause-records : goal.write_version-requires-clause-records
 write_version-requires-clause-records g c clean =

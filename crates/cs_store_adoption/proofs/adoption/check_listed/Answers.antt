@@ -2,8 +2,8 @@
 use Rattle.std.proofs.Common.{inl}
 use Rattle.sqlite.specs.Held.{state}
 use Rattle.cs_store_records.specs.Records.{records_in}
-use Rattle.cs_store.proofs.AdoptionLemmas.{none_held}
-use Rattle.cs_store.proofs.adoption.check_listed.Goals as goal
+use Rattle.cs_store_adoption.proofs.AdoptionLemmas.{none_held}
+use Rattle.cs_store_adoption.proofs.adoption.check_listed.Goals as goal
 
 pub check_tables-requires-clause-version : goal.check_tables-requires-clause-version
 check_tables-requires-clause-version g c clean holds =

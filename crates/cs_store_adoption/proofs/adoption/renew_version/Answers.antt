@@ -3,8 +3,8 @@ use Rattle.std.proofs.Common.{ap, ◌∙◌, Some}
 use Rattle.sqlite.specs.Held.{state}
 use Rattle.sqlite.proofs.StateLemmas.{unchanged}
 use Rattle.cs_store_bytes.specs.Versions.{bytes_of}
-use Rattle.cs_store.proofs.AdoptionLemmas.{valid_holds}
-use Rattle.cs_store.proofs.adoption.renew_version.Goals as goal
+use Rattle.cs_store_adoption.proofs.AdoptionLemmas.{valid_holds}
+use Rattle.cs_store_adoption.proofs.adoption.renew_version.Goals as goal
 
 pub returns-in-Current-clause-set_up : goal.returns-in-Current-clause-set_up
 returns-in-Current-clause-set_up g c clean =

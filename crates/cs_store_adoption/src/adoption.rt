@@ -25,7 +25,7 @@ use std::alloc::{AllocError, Global};
 
 /// Makes a store if the database holds none yet, and else checks the one there, in one transaction. A refusal leaves
 /// the database as it was.
-pub(crate) fn adopt<S: Alter>(conn: &mut Connection<S>, alloc: Global) -> Result<(), StoreError>
+pub fn adopt<S: Alter>(conn: &mut Connection<S>, alloc: Global) -> Result<(), StoreError>
     ensures adopted { HasCleanDisk (state S.Store conn.new)
         → OnOk result (Adopts (state S.Store conn.old) (state S.Store conn.new)) }
     ensures refused { HasCleanDisk (state S.Store conn.new) → IfErr result (λ e. ((e ≡ Damaged)

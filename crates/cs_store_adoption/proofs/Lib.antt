@@ -1,0 +1,2 @@
+pub mod AdoptionFailures
+pub mod AdoptionLemmas
