@@ -9,7 +9,8 @@
 //! ```
 //!
 //! `store` applies a file to the rows of a batch, by `cs_apply_rows`, and commits the batch or drops it. `transaction`
-//! applies one in a transaction that goes on. The names of `cs_apply_rows` are passed on. `CALLING.md`, next to this folder, shows a caller.
+//! applies one in a transaction that goes on. The names of `cs_apply_rows` are passed on. `CALLING.md`, next to this
+//! folder, shows a caller.
 #![tactic(auto)]
 
 mod store;

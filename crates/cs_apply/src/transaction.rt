@@ -1,5 +1,5 @@
 //! Changesets applied in a transaction that goes on.
-ghost use Rattle.std.specs.Prelude.{◌≡◌, [], IfOk, IfErr, MatchResult};
+ghost use Rattle.std.specs.Prelude.{◌≡◌, [], false, IfOk, IfErr, MatchResult};
 ghost use Rattle.std.specs.Fn.{FnReturnsAt};
 ghost use Rattle.sqlite.specs.State.{HasCleanDisk};
 ghost use Rattle.sqlite.specs.Held.{state};
@@ -28,8 +28,8 @@ use std::alloc::Global;
 ///
 /// # Errors
 ///
-/// Those of [`run_in`], and `StoreFault` if the transaction has ended. After a refusal the transaction shows what it
-/// showed before. Or the error is of the disk or of memory, the transaction has ended
+/// Those of [`run_in`], and `StoreFault` or `NoMemory` if the transaction has ended. After a refusal the transaction shows
+/// what it showed before. Or the error is of the store or `NoMemory`, the transaction has ended
 /// ([`Transaction::has_ended`]), and the store is as it was when the transaction began.
 pub fn apply_in_transaction<S: Alter + Drop, H: Fn(&Conflict) -> Choice>(
     alloc: Global,
@@ -40,18 +40,22 @@ pub fn apply_in_transaction<S: Alter + Drop, H: Fn(&Conflict) -> Choice>(
 ) -> Result<Report, ApplyFault>
     requires { H.IsAlwaysCallable handler.now }
     ensures applied { HasCleanDisk (state S.Store transaction.new) → IfOk result (λ report.
-        Applies (FnReturnsAt H.Fn handler.now) noop file.now ForwardRun (tables_in (state S.Store transaction.old).now) report
-        (tables_in (state S.Store transaction.new).now)) }
+        Applies (FnReturnsAt H.Fn handler.now) noop file.now ForwardRun
+        (tables_in (state S.Store transaction.old).now) report (tables_in (state S.Store transaction.new).now)) }
     ensures clean { HasCleanDisk (state S.Store transaction.new) → IfOk result (λ report. report.conflicts.items ≡ []
         → report.ignored ≡ 0 → Leads file.now (tables_in (state S.Store transaction.old).now)
         (tables_in (state S.Store transaction.new).now)) }
     ensures refused { HasCleanDisk (state S.Store transaction.new) → IfErr result
-        (Refuses (FnReturnsAt H.Fn handler.now) noop file.now ForwardRun (tables_in (state S.Store transaction.old).now)) }
+        (Refuses (FnReturnsAt H.Fn handler.now) noop file.now ForwardRun
+        (tables_in (state S.Store transaction.old).now)) }
     ensures caused { HasCleanDisk (state S.Store transaction.new) → IfErr result (IsCaused (BatchFails
         (Writes (IsFileWrite ForwardRun file.now)) (state S.Store transaction.old) (state S.Store transaction.new))) }
     ensures named { IfErr result IsNamed }
+    ensures over { HasCleanDisk (state S.Store transaction.new) → (state S.Store transaction.old).in_transaction ≡ false
+        → IfErr result IsResource }
     ensures within { Within (AppliesInto (FnReturnsAt H.Fn handler.now) noop file.now ForwardRun
-        (tables_in (state S.Store transaction.old).now)) IsStoreRefusal (state S.Store transaction.old) (state S.Store transaction.new) result }
+        (tables_in (state S.Store transaction.old).now)) IsStoreRefusal
+        (state S.Store transaction.old) (state S.Store transaction.new) result }
 {
     transaction.store_law();
     call(alloc, transaction, file, Direction::Forward, noop, handler)
@@ -83,8 +87,11 @@ pub fn revert_in_transaction<S: Alter + Drop>(
     ensures caused { HasCleanDisk (state S.Store transaction.new) → IfErr result (IsCaused (BatchFails
         (Writes (IsFileWrite InverseRun file.now)) (state S.Store transaction.old) (state S.Store transaction.new))) }
     ensures named { IfErr result IsNamed }
+    ensures over { HasCleanDisk (state S.Store transaction.new) → (state S.Store transaction.old).in_transaction ≡ false
+        → IfErr result IsResource }
     ensures within { Within (AppliesInto AlwaysAborts Reported file.now InverseRun
-        (tables_in (state S.Store transaction.old).now)) IsStoreRefusal (state S.Store transaction.old) (state S.Store transaction.new) result }
+        (tables_in (state S.Store transaction.old).now)) IsStoreRefusal
+        (state S.Store transaction.old) (state S.Store transaction.new) result }
 {
     changeset_files_law();
     let (direction, noop) = (Direction::Inverse, Noop::Report);
@@ -102,15 +109,19 @@ fn call<S: Alter + Drop, H: Fn(&Conflict) -> Choice>(
 ) -> Result<Report, ApplyFault>
     requires { H.IsAlwaysCallable handler.now }
     ensures applied { HasCleanDisk (state S.Store transaction.new) → IfOk result (λ report.
-        Applies (FnReturnsAt H.Fn handler.now) noop file.now direction (tables_in (state S.Store transaction.old).now) report
-        (tables_in (state S.Store transaction.new).now)) }
+        Applies (FnReturnsAt H.Fn handler.now) noop file.now direction
+        (tables_in (state S.Store transaction.old).now) report (tables_in (state S.Store transaction.new).now)) }
     ensures refused { HasCleanDisk (state S.Store transaction.new) → IfErr result
-        (Refuses (FnReturnsAt H.Fn handler.now) noop file.now direction (tables_in (state S.Store transaction.old).now)) }
+        (Refuses (FnReturnsAt H.Fn handler.now) noop file.now direction
+        (tables_in (state S.Store transaction.old).now)) }
     ensures caused { HasCleanDisk (state S.Store transaction.new) → IfErr result (IsCaused (BatchFails
         (Writes (IsFileWrite direction file.now)) (state S.Store transaction.old) (state S.Store transaction.new))) }
     ensures named { IfErr result IsNamed }
+    ensures over { HasCleanDisk (state S.Store transaction.new) → (state S.Store transaction.old).in_transaction ≡ false
+        → IfErr result IsResource }
     ensures within { Within (AppliesInto (FnReturnsAt H.Fn handler.now) noop file.now direction
-        (tables_in (state S.Store transaction.old).now)) IsStoreRefusal (state S.Store transaction.old) (state S.Store transaction.new) result }
+        (tables_in (state S.Store transaction.old).now)) IsStoreRefusal
+        (state S.Store transaction.old) (state S.Store transaction.new) result }
 {
     transaction.store_law();
     transaction.mark()?;

@@ -25,9 +25,9 @@ pub trait Rows {
     // What is read is what was written. The clauses speak where it still holds as a call returns.
     ghost is_honest: { Self → Type 0 };
 
-    // What a call keeps, whether it is accepted or refused: what the rows are borrowed from, and what lasts of it. Of
-    // an accepted call also this: writes lead from the first rows to the second, and `Is` holds of each with the tables
-    // as they are then.
+    // What a call keeps, whether it is accepted or refused: what the rows are borrowed from, and what lasts of it. If
+    // the rows have answered each call, also this: writes lead from the first rows to the second, and `Is` holds of
+    // each with the tables as they are then.
     ghost keeps: { (State → Write → Type 0) → Bool → Self → Self → Type 0 };
 
     ghost keeps_itself: { (Is : State → Write → Type 0) (b : Self) → keeps Is true b b };

@@ -1,9 +1,9 @@
 //! Transactions that own their store.
 ghost use Rattle.std.specs.Prelude.{◌≡◌, ◌⊎◌, true, false, List, None, Ok, Err, IsTrue, OnOk, OnErr, IfOk, IfErr};
-ghost use Rattle.std.specs.Prelude.{IfSome, map as map_list, not, string_bytes};
+ghost use Rattle.std.specs.Prelude.{IfSome, MatchResult, map as map_list, not, string_bytes};
 ghost use Rattle.std.specs.FinMap as map;
 ghost use Rattle.sqlite.specs.Effect.{Database};
-ghost use Rattle.sqlite.specs.State.{HasCleanDisk, Savepoint, Shows};
+ghost use Rattle.sqlite.specs.State.{HasCleanDisk, Savepoint, Shows, Survives};
 ghost use Rattle.sqlite.specs.Held.{state};
 ghost use Rattle.cs_value.specs.State.{schema_at, row_at, rows_at};
 ghost use Rattle.cs_value.specs.Table.{IsName};
@@ -33,9 +33,9 @@ use std::marker::Model;
 /// A transaction that owns its store. Reads show what it wrote, and nothing lasts before
 /// [`commit`](Transaction::commit).
 ///
-/// A failure of the disk or of memory may end it. Then reads show the store as it was when the transaction began, and
-/// each edit, mark and commit is refused. Dropping it drops the store too, and what was written is lost;
-/// [`roll_back`](Transaction::roll_back) gives the store back.
+/// A call that fails with `StoreFault`, `NoMemory` or `DamagedStore` may end it. Then reads show the store as it was when
+/// the transaction began, and each call that writes or commits is refused. Dropping it drops the store too, and what was
+/// written is lost; [`roll_back`](Transaction::roll_back) gives the store back.
 #[derive(Drop)]
 pub struct Transaction<S: Alter> {
     pub(crate) store: Store<S>,
@@ -106,6 +106,11 @@ impl<S: Alter + Drop> Transaction<S> {
             (state S.Store self) (state S.Store e.1)) }
         ensures stands { IfErr result (λ e. IsTrue (state S.Store e.1).is_open → LeavesOnly
             (λ left. left ≡ tables_in (state S.Store self).committed) (state S.Store e.1)) }
+        ensures survives { MatchResult result
+            (λ s. Survives (state S.Store self) (state S.Store s)
+            (λ db. (db ≡ (state S.Store self).now.trees) × IsTrue (state S.Store self).in_transaction))
+            (λ e. Survives (state S.Store self) (state S.Store e.1)
+            (λ db. (db ≡ (state S.Store self).now.trees) × IsTrue (state S.Store self).in_transaction)) }
         ensures refused { IfErr result (λ e. IsResource e.0) }
         ensures caused { IfErr result (λ e. HasCleanDisk (state S.Store e.1)
             → IsCaused (CommitFails (state S.Store self) (state S.Store e.1)) e.0) }
@@ -119,7 +124,8 @@ impl<S: Alter + Drop> Transaction<S> {
     }
 
     /// Has no effect. Its contract says that a transaction whose connection is open shows the tables of a state, and
-    /// all but the records as it was committed last. One that has ended shows what was committed last.
+    /// all but the records as it was committed last. One that has ended shows what was committed last, and one that has
+    /// not is open.
     pub fn store_law(&self)
         ensures holds { HasCleanDisk (state S.Store self.now) → IsTrue (state S.Store self.now).is_open
             → HoldsState (state S.Store self.now).now
@@ -127,6 +133,8 @@ impl<S: Alter + Drop> Transaction<S> {
         ensures settled { HasCleanDisk (state S.Store self.now) → (state S.Store self.now).in_transaction ≡ false
             → IsTrue (state S.Store self.now).is_open
             → (state S.Store self.now).now ≡ (state S.Store self.now).committed }
+        ensures inside { HasCleanDisk (state S.Store self.now) → IsTrue (state S.Store self.now).in_transaction
+            → IsTrue (state S.Store self.now).is_open }
     {
         let _ = &self.store.conn;
     }
@@ -189,7 +197,8 @@ impl<S: Alter + Drop> Transaction<S> {
         }
     }
 
-    /// Goes back to the newest mark, which must be there if the transaction is open, and drops it.
+    /// Goes back to the newest mark, and drops it. If the transaction is open, the mark must be there, and must have been
+    /// set where it showed tables.
     ///
     /// # Errors
     ///
@@ -225,7 +234,8 @@ impl<S: Alter + Drop> Transaction<S> {
     }
 
     /// Ends a call that set a mark first: drops the mark if the call is accepted, and goes back to it if the call is
-    /// refused. It does nothing if the refused call has ended the transaction.
+    /// refused. It does nothing if the refused call has ended the transaction. An accepted call must have left the
+    /// transaction open, and the mark must have been set where it showed tables.
     ///
     /// # Errors
     ///
@@ -373,8 +383,8 @@ impl<S: Alter + Drop> Transaction<S> {
     /// # Errors
     ///
     /// `BadSchema` if the name or the columns make no table, and then `TableExists`. `DamagedStore` and `NoMemory` as of
-    /// [`tables`](Transaction::tables). `StoreFault` if the transaction has ended or the database refuses. What a
-    /// refusal leaves is as of [`edit`](Transaction::edit).
+    /// [`tables`](Transaction::tables). `StoreFault` or `NoMemory` if the transaction has ended, and `StoreFault` if the
+    /// database refuses. What a refusal leaves is as of [`edit`](Transaction::edit).
     pub fn declare(
         &mut self,
         alloc: Global,
@@ -393,6 +403,8 @@ impl<S: Alter + Drop> Transaction<S> {
             (IsDeclarationOf (tables_in (state S.Store self.old).now) name.now
             (schema_of columns.now keys.now refuses.now)) (state S.Store self.old) (state S.Store self.new))) }
         ensures named { IfErr result (λ e. (e ≡ NoSchema) ⊎ (e ≡ TakenName) ⊎ IsReadRefusal e) }
+        ensures over { HasCleanDisk (state S.Store self.new) → (state S.Store self.old).in_transaction ≡ false
+            → IfErr result (λ e. (e ≡ NoSchema) ⊎ IsResource e) }
         ensures within { Within (λ left. Declares (tables_in (state S.Store self.old).now) name.now
             (schema_of columns.now keys.now refuses.now) (Ok left))
             IsReadRefusal (state S.Store self.old) (state S.Store self.new) result }
@@ -433,8 +445,8 @@ impl<S: Alter + Drop> Transaction<S> {
     ///
     /// # Errors
     ///
-    /// Those of [`edit_in`]. An edit is refused if the transaction has ended. After a refusal the transaction shows
-    /// what it showed before. Or the error is of the disk or of memory, the transaction has
+    /// Those of [`edit_in`], and `StoreFault` or `NoMemory` if the transaction has ended. After a refusal the transaction
+    /// shows what it showed before. Or the error is `StoreFault`, `NoMemory` or `DamagedStore`, the transaction has
     /// [ended](Transaction::has_ended), and the store is as it was when the transaction began.
     pub fn edit(&mut self, alloc: Global, edit: &Edit) -> Result<Vec<Written>, StoreError>
         ensures edited { HasCleanDisk (state S.Store self.new)
@@ -446,6 +458,8 @@ impl<S: Alter + Drop> Transaction<S> {
             (Writes (IsWriteOf (tables_in (state S.Store self.old).now) edit.now)) (state S.Store self.old)
             (state S.Store self.new))) }
         ensures named { IfErr result IsEditRefusal }
+        ensures over { HasCleanDisk (state S.Store self.new) → (state S.Store self.old).in_transaction ≡ false
+            → IfErr result IsResource }
         ensures within { Within (EditsInto (tables_in (state S.Store self.old).now) edit.now) IsReadRefusal
             (state S.Store self.old) (state S.Store self.new) result }
     {

@@ -7,7 +7,10 @@ ghost use Rattle.cs_store.specs.Store.{tables_in};
 
 use crate::rows::{Call, edit_of, end, rows_of, store_of};
 use crate::{DELETE, INSERT, UPDATE};
-use cs_apply::{ApplyFault, Choice, Conflict, Noop, Policy, Report, apply};
+use cs_apply::{
+    ApplyFault, Choice, Conflict, Noop, Policy, Report, apply, apply_in_transaction,
+    revert_in_transaction,
+};
 use cs_session::{Session, SessionFault, runs_law};
 use cs_store::{Edit, Rows, Store, StoreError, edit_in};
 use cs_value::{OwnedValue, Row, Value};
@@ -98,6 +101,40 @@ fn replays_files(rt: HostRuntime) {
         assert!(rt; report.written.len() == count);
     }
     end(store);
+}
+
+/// Applies files in one transaction, and reverts each that has a conflict.
+fn toggle<S: Alter + Drop>(
+    alloc: Global,
+    store: Store<S>,
+    files: &[&[u8]],
+) -> Result<Store<S>, (StoreError, Store<S>)> {
+    let handler = |_: &Conflict| Choice::Abort;
+    let mut transaction = store.into_transaction()?;
+    for file in files {
+        let report = apply_in_transaction(alloc, &mut transaction, file, Noop::Report, &handler);
+        if report.is_err() {
+            let _ = revert_in_transaction(alloc, &mut transaction, file);
+        }
+    }
+    transaction.commit()
+}
+
+#[test]
+fn toggles_a_row(rt: HostRuntime) {
+    for (files, count) in [
+        ([INSERT].as_slice(), 1),
+        (&[INSERT, INSERT], 0),
+        (&[INSERT, INSERT, INSERT], 1),
+    ] {
+        match toggle(rt.alloc(), store_of(&rt, &[false, false]), files) {
+            Ok(mut store) => {
+                assert!(rt; rows_of(&rt, &mut store).len() == count);
+                end(store);
+            }
+            Err((error, _)) => panic!(rt; "refused: {error}"),
+        }
+    }
 }
 
 /// Carries out edits, or undoes all that the session noted where one of them is refused.
