@@ -1,20 +1,20 @@
 //! Stores: tables of rows in a database.
 ghost use Rattle.std.specs.Prelude.{◌≡◌, ◌⊎◌, IsTrue, IfOk, IfErr, OnOk, OnErr, IfSome, None, Ok, Err, MatchResult};
-ghost use Rattle.std.specs.Prelude.{map as map_list, string_bytes};
+ghost use Rattle.std.specs.Prelude.{map as map_list, string_bytes, true};
 ghost use Rattle.std.specs.FinMap as map;
 ghost use Rattle.cs_value.specs.State as tables;
 ghost use Rattle.cs_value.specs.State.{schema_at, row_at, rows_at};
 ghost use Rattle.cs_rows.specs.declared.fault.StoreError.TheVariants.{DamagedStore as Damaged, NoTable as NoSuchTable};
 ghost use Rattle.cs_rows.specs.declared.fault.StoreError.TheVariants.{BadSchema as NoSchema, TableExists as TakenName};
-ghost use Rattle.cs_rows.specs.Faults.{IsCaused, IsResource, IsReadRefusal, IsEditRefusal};
+ghost use Rattle.cs_rows.specs.Faults.{IsCaused, IsResource, IsReadRefusal, IsEditRefusal, is_answered};
 ghost use Rattle.cs_store_tables.specs.Failing.{AdoptFails, BeginFails, IsDeclarationOf, ReadFails};
 ghost use Rattle.cs_store_tables.specs.Failing.{StoreFails, Writes};
 ghost use Rattle.cs_rows.specs.Editing.{Declares, EditsInto, IsWriteOf, schema_of, edited, written_of};
 ghost use Rattle.cs_store_tables.specs.Crash.{CanBegin, IsAtomic, IsLeftOf, LeavesOnly, LeavesTakenOver, MayLeave};
-ghost use Rattle.cs_store_records.specs.Records.{KeepsContent, KeepsCrash, KeepsOthers};
+ghost use Rattle.cs_store_records.specs.Records.{KeepsContent, KeepsCrash, KeepsOthers, Rests};
 ghost use Rattle.cs_rows.specs.Rows.{IsDeclared, Fits};
 ghost use Rattle.sqlite.specs.Effect.{IsDatabase};
-ghost use Rattle.sqlite.specs.State.{HasCleanDisk, Survives};
+ghost use Rattle.sqlite.specs.State.{HasCleanDisk, IsUnchanged, Survives};
 ghost use Rattle.sqlite.specs.Held.{state};
 ghost use Rattle.sqlite_trees.specs.Tree.{Trees};
 ghost use Rattle.sqlite.specs.Steps.{over_memory};
@@ -280,6 +280,9 @@ impl<S: Alter> Store<S> {
         ensures caused { HasCleanDisk (state S.Store self.new)
             → IfErr result (IsCaused (ReadFails (state S.Store self.old) (state S.Store self.new))) }
         ensures named { IfErr result IsReadRefusal }
+        ensures reads { HasCleanDisk (state S.Store self.new) → is_answered result ≡ true
+            → IsUnchanged (state S.Store self.old) (state S.Store self.new) }
+        ensures rests { HasCleanDisk (state S.Store self.new) → Rests (state S.Store self.old) (state S.Store self.new) }
         ensures kept { KeepsStore (state S.Store self.old) (state S.Store self.new) }
     {
         self.known = None;
@@ -302,6 +305,9 @@ impl<S: Alter> Store<S> {
         ensures caused { HasCleanDisk (state S.Store self.new)
             → IfErr result (IsCaused (ReadFails (state S.Store self.old) (state S.Store self.new))) }
         ensures named { IfErr result IsReadRefusal }
+        ensures reads { HasCleanDisk (state S.Store self.new) → is_answered result ≡ true
+            → IsUnchanged (state S.Store self.old) (state S.Store self.new) }
+        ensures rests { HasCleanDisk (state S.Store self.new) → Rests (state S.Store self.old) (state S.Store self.new) }
         ensures kept { KeepsStore (state S.Store self.old) (state S.Store self.new) }
     {
         cs_store_tables::find_schema(&mut self.conn, &mut self.known, alloc, name)
@@ -327,6 +333,9 @@ impl<S: Alter> Store<S> {
         ensures caused { HasCleanDisk (state S.Store self.new)
             → IfErr result (IsCaused (ReadFails (state S.Store self.old) (state S.Store self.new))) }
         ensures named { IfErr result (λ e. (e ≡ NoSuchTable) ⊎ IsReadRefusal e) }
+        ensures reads { HasCleanDisk (state S.Store self.new) → is_answered result ≡ true
+            → IsUnchanged (state S.Store self.old) (state S.Store self.new) }
+        ensures rests { HasCleanDisk (state S.Store self.new) → Rests (state S.Store self.old) (state S.Store self.new) }
         ensures kept { KeepsStore (state S.Store self.old) (state S.Store self.new) }
     {
         let listed = cs_store_tables::list_rows(&mut self.conn, &mut self.known, alloc, name)?;
@@ -357,6 +366,9 @@ impl<S: Alter> Store<S> {
         ensures caused { HasCleanDisk (state S.Store self.new)
             → IfErr result (IsCaused (ReadFails (state S.Store self.old) (state S.Store self.new))) }
         ensures named { IfErr result (λ e. (e ≡ NoSuchTable) ⊎ IsReadRefusal e) }
+        ensures reads { HasCleanDisk (state S.Store self.new) → is_answered result ≡ true
+            → IsUnchanged (state S.Store self.old) (state S.Store self.new) }
+        ensures rests { HasCleanDisk (state S.Store self.new) → Rests (state S.Store self.old) (state S.Store self.new) }
         ensures kept { KeepsStore (state S.Store self.old) (state S.Store self.new) }
     {
         let found = cs_store_tables::find_row(&mut self.conn, &mut self.known, alloc, name, key)?;

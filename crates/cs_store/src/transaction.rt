@@ -3,7 +3,7 @@ ghost use Rattle.std.specs.Prelude.{◌≡◌, ◌⊎◌, true, false, List, Non
 ghost use Rattle.std.specs.Prelude.{IfSome, MatchResult, map as map_list, not, string_bytes};
 ghost use Rattle.std.specs.FinMap as map;
 ghost use Rattle.sqlite.specs.Effect.{Database};
-ghost use Rattle.sqlite.specs.State.{HasCleanDisk, Savepoint, Shows, Survives};
+ghost use Rattle.sqlite.specs.State.{HasCleanDisk, IsUnchanged, Savepoint, Shows, Survives};
 ghost use Rattle.sqlite.specs.Held.{state};
 ghost use Rattle.cs_value.specs.State.{schema_at, row_at, rows_at};
 ghost use Rattle.cs_value.specs.Table.{IsName};
@@ -13,7 +13,7 @@ ghost use Rattle.cs_rows.specs.Faults.{IsCaused, IsResource, IsReadRefusal, IsEd
 ghost use Rattle.cs_rows.specs.Rows.{IsDeclared, Fits};
 ghost use Rattle.cs_rows.specs.Editing.{Declares, EditsInto, schema_of, IsWriteOf, edited, written_of};
 ghost use Rattle.cs_store_records.specs.Marks.{HasMark, IsMarked};
-ghost use Rattle.cs_store_records.specs.Records.{IsUndone, KeepsContent, KeepsCrash, KeepsOthers};
+ghost use Rattle.cs_store_records.specs.Records.{IsUndone, KeepsContent, KeepsCrash, KeepsOthers, Rests};
 ghost use Rattle.cs_store_tables.specs.Crash.{IsAtomic, LeavesOnly};
 ghost use Rattle.cs_store_tables.specs.Failing.{BatchFails, BeginFails, CommitFails, IsDeclarationOf, LeadsOn, MarkFails};
 ghost use Rattle.cs_store_tables.specs.Failing.{ReadFails, ReleaseFails, Writes};
@@ -296,6 +296,9 @@ impl<S: Alter> Transaction<S> {
         ensures caused { HasCleanDisk (state S.Store self.new)
             → IfErr result (IsCaused (ReadFails (state S.Store self.old) (state S.Store self.new))) }
         ensures named { IfErr result IsReadRefusal }
+        ensures reads { HasCleanDisk (state S.Store self.new) → is_answered result ≡ true
+            → IsUnchanged (state S.Store self.old) (state S.Store self.new) }
+        ensures rests { HasCleanDisk (state S.Store self.new) → Rests (state S.Store self.old) (state S.Store self.new) }
         ensures kept { KeepsStore (state S.Store self.old) (state S.Store self.new) }
     {
         self.store.tables(alloc)
@@ -317,6 +320,9 @@ impl<S: Alter> Transaction<S> {
         ensures caused { HasCleanDisk (state S.Store self.new)
             → IfErr result (IsCaused (ReadFails (state S.Store self.old) (state S.Store self.new))) }
         ensures named { IfErr result IsReadRefusal }
+        ensures reads { HasCleanDisk (state S.Store self.new) → is_answered result ≡ true
+            → IsUnchanged (state S.Store self.old) (state S.Store self.new) }
+        ensures rests { HasCleanDisk (state S.Store self.new) → Rests (state S.Store self.old) (state S.Store self.new) }
         ensures kept { KeepsStore (state S.Store self.old) (state S.Store self.new) }
     {
         self.store.schema(alloc, name)
@@ -342,6 +348,9 @@ impl<S: Alter> Transaction<S> {
         ensures caused { HasCleanDisk (state S.Store self.new)
             → IfErr result (IsCaused (ReadFails (state S.Store self.old) (state S.Store self.new))) }
         ensures named { IfErr result (λ e. (e ≡ NoSuchTable) ⊎ IsReadRefusal e) }
+        ensures reads { HasCleanDisk (state S.Store self.new) → is_answered result ≡ true
+            → IsUnchanged (state S.Store self.old) (state S.Store self.new) }
+        ensures rests { HasCleanDisk (state S.Store self.new) → Rests (state S.Store self.old) (state S.Store self.new) }
         ensures kept { KeepsStore (state S.Store self.old) (state S.Store self.new) }
     {
         self.store.rows(alloc, name)
@@ -368,6 +377,9 @@ impl<S: Alter> Transaction<S> {
         ensures caused { HasCleanDisk (state S.Store self.new)
             → IfErr result (IsCaused (ReadFails (state S.Store self.old) (state S.Store self.new))) }
         ensures named { IfErr result (λ e. (e ≡ NoSuchTable) ⊎ IsReadRefusal e) }
+        ensures reads { HasCleanDisk (state S.Store self.new) → is_answered result ≡ true
+            → IsUnchanged (state S.Store self.old) (state S.Store self.new) }
+        ensures rests { HasCleanDisk (state S.Store self.new) → Rests (state S.Store self.old) (state S.Store self.new) }
         ensures kept { KeepsStore (state S.Store self.old) (state S.Store self.new) }
     {
         self.store.get(alloc, name, key)

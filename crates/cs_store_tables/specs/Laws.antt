@@ -7,12 +7,12 @@ use Rattle.sqlite.specs.declared.error.Error.{Error}
 use Rattle.sqlite.specs.Effect.{Database}
 use Rattle.cs_rows.specs.declared.fault.Cause.{Cause}
 use Rattle.sqlite_trees.specs.Tree.{Trees}
-use Rattle.sqlite.specs.State.{State, Savepoint, HasCleanDisk, Survives}
+use Rattle.sqlite.specs.State.{State, Savepoint, HasCleanDisk, IsUnchanged, KeepsCounts, Survives}
 use Rattle.sqlite.proofs.StateLemmas.{survives_then}
 use Rattle.cs_value.specs.State as tables
 use Rattle.cs_store_records.specs.Failing.{Statement, LeadsTo, itself, by_each, CannotRead, HasDiskFailed, IsHindered, Refuses}
 use Rattle.cs_store_records.specs.Marks.{IsMarked}
-use Rattle.cs_store_records.specs.Records.{KeepsContent, KeepsCrash}
+use Rattle.cs_store_records.specs.Records.{KeepsContent, KeepsCrash, Rests}
 use Rattle.cs_store_records.proofs.ContentLemmas.{crash_itself}
 use Rattle.cs_store_tables.specs.Crash.{LeavesOnly}
 use Rattle.cs_rows.specs.Rows.{Write}
@@ -41,6 +41,55 @@ content_then {a} {b} {c} one two = record {
   now = λ k. two.now k ∙ one.now (two.was_open k);
   committed = λ k. two.committed k ∙ one.committed (two.was_open k);
 }
+
+-- nothing changes by doing nothing, and by one call after another
+pub unchanged_itself : {s : State} → IsTrue s.is_open → IsUnchanged s s
+unchanged_itself {s} is_open = (
+  record { was_open = is_open; is_open = is_open; now_is = refl; committed_is = refl; mode = refl },
+  record { changes = refl; last_rowid = refl },
+  refl,
+)
+
+counts_then : {a b c : State} → KeepsCounts a b → KeepsCounts b c → KeepsCounts a c
+counts_then one two = record { changes = two.changes ∙ one.changes; last_rowid = two.last_rowid ∙ one.last_rowid }
+
+pub unchanged_then : {a b c : State} → IsUnchanged a b → IsUnchanged b c → IsUnchanged a c
+unchanged_then one two = (
+  record {
+    was_open = one.0.was_open;
+    is_open = two.0.is_open;
+    now_is = two.0.now_is ∙ one.0.now_is;
+    committed_is = two.0.committed_is ∙ one.0.committed_is;
+    mode = two.0.mode ∙ one.0.mode;
+  },
+  counts_then one.1 two.1,
+  two.2 ∙ one.2,
+)
+
+-- or a failure takes the database back to the last commit
+pub rests_then : {a b c : State} → Rests a b → Rests b c → Rests a c
+rests_then (inl one) (inl two) = inl (unchanged_then one two)
+rests_then (inl one) (inr two) = inr (record {
+  was_open = λ k. one.0.was_open;
+  undone = λ k. ((two.undone k).0 ∙ one.0.committed_is, (two.undone k).1 ∙ one.0.committed_is);
+  autocommit = two.autocommit;
+  unmarked = two.unmarked;
+  counts = counts_then one.1 two.counts;
+})
+rests_then (inr one) (inl two) = inr (record {
+  was_open = λ k. one.was_open two.0.was_open;
+  undone = λ k. (two.0.now_is ∙ (one.undone two.0.was_open).0, two.0.committed_is ∙ (one.undone two.0.was_open).1);
+  autocommit = two.0.mode ∙ one.autocommit;
+  unmarked = two.2 ∙ one.unmarked;
+  counts = counts_then one.counts two.1;
+})
+rests_then (inr one) (inr two) = inr (record {
+  was_open = λ k. one.was_open (two.was_open k);
+  undone = λ k. ((two.undone k).0 ∙ (one.undone (two.was_open k)).1, (two.undone k).1 ∙ (one.undone (two.was_open k)).1);
+  autocommit = two.autocommit;
+  unmarked = two.unmarked;
+  counts = counts_then one.counts two.counts;
+})
 
 -- a store is kept by doing nothing
 pub keeps_itself : {s : State} → KeepsStore s s

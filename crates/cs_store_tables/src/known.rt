@@ -11,7 +11,8 @@ ghost use Rattle.cs_rows.specs.Rows.{IsDeclared, Fits, puts_row, removes_row};
 ghost use Rattle.cs_store_tables.specs.Failing.{BatchFails, IsDeclarationOf, LeadsOn, PutFails, ReadFails, RemoveFails, Writes};
 ghost use Rattle.cs_store_tables.specs.Store.{AddsTable, IsFreeKey, IsSound, KeepsStore, Knows, RefusesShut};
 ghost use Rattle.cs_store_tables.specs.Store.{tables_in, without_free_key};
-ghost use Rattle.sqlite.specs.State.{HasCleanDisk};
+ghost use Rattle.sqlite.specs.State.{HasCleanDisk, IsUnchanged};
+ghost use Rattle.cs_store_records.specs.Records.{Rests};
 ghost use Rattle.sqlite.specs.Held.{state};
 
 use crate::tables;
@@ -61,6 +62,9 @@ pub fn find_schema<S: Alter>(
     ensures knows { Knows (state S.Store conn.new) known.new }
     ensures leads { HasCleanDisk (state S.Store conn.new)
         → OnOk result (LeadsOn (λ _ _. ⊥) (state S.Store conn.old) (state S.Store conn.new)) }
+    ensures reads { HasCleanDisk (state S.Store conn.new)
+        → OnOk result (IsUnchanged (state S.Store conn.old) (state S.Store conn.new)) }
+    ensures rests { HasCleanDisk (state S.Store conn.new) → Rests (state S.Store conn.old) (state S.Store conn.new) }
     ensures kept { KeepsStore (state S.Store conn.old) (state S.Store conn.new) }
 {
     look_up(conn, known, alloc, name)?;
@@ -97,6 +101,9 @@ pub fn find_row<S: Alter>(
     ensures knows { Knows (state S.Store conn.new) known.new }
     ensures leads { HasCleanDisk (state S.Store conn.new)
         → OnOk result (LeadsOn (λ _ _. ⊥) (state S.Store conn.old) (state S.Store conn.new)) }
+    ensures reads { HasCleanDisk (state S.Store conn.new)
+        → OnOk result (IsUnchanged (state S.Store conn.old) (state S.Store conn.new)) }
+    ensures rests { HasCleanDisk (state S.Store conn.new) → Rests (state S.Store conn.old) (state S.Store conn.new) }
     ensures kept { KeepsStore (state S.Store conn.old) (state S.Store conn.new) }
 {
     look_up(conn, known, alloc, name)?;
@@ -140,6 +147,9 @@ pub fn list_rows<S: Alter>(
     ensures knows { Knows (state S.Store conn.new) known.new }
     ensures leads { HasCleanDisk (state S.Store conn.new)
         → OnOk result (LeadsOn (λ _ _. ⊥) (state S.Store conn.old) (state S.Store conn.new)) }
+    ensures reads { HasCleanDisk (state S.Store conn.new)
+        → OnOk result (IsUnchanged (state S.Store conn.old) (state S.Store conn.new)) }
+    ensures rests { HasCleanDisk (state S.Store conn.new) → Rests (state S.Store conn.old) (state S.Store conn.new) }
     ensures kept { KeepsStore (state S.Store conn.old) (state S.Store conn.new) }
 {
     look_up(conn, known, alloc, name)?;
@@ -320,6 +330,9 @@ fn look_up<S: Alter>(
     ensures knows { Knows (state S.Store conn.new) known.new }
     ensures leads { HasCleanDisk (state S.Store conn.new)
         → OnOk result (LeadsOn (λ _ _. ⊥) (state S.Store conn.old) (state S.Store conn.new)) }
+    ensures reads { HasCleanDisk (state S.Store conn.new)
+        → OnOk result (IsUnchanged (state S.Store conn.old) (state S.Store conn.new)) }
+    ensures rests { HasCleanDisk (state S.Store conn.new) → Rests (state S.Store conn.old) (state S.Store conn.new) }
     ensures kept { KeepsStore (state S.Store conn.old) (state S.Store conn.new) }
 {
     if !conn.is_autocommit() && has_name(known, name) {

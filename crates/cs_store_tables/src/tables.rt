@@ -10,7 +10,8 @@ ghost use Rattle.cs_value.specs.Spelling.{row_bytes};
 ghost use Rattle.cs_value.specs.State.{SchemaData, IsSchema, schema_at, row_at, rows_at};
 ghost use Rattle.cs_value.specs.State.{with_row, without_row};
 ghost use Rattle.cs_store_bytes.specs.Declaration.{declaration_bytes};
-ghost use Rattle.sqlite.specs.State.{HasCleanDisk};
+ghost use Rattle.sqlite.specs.State.{HasCleanDisk, IsUnchanged};
+ghost use Rattle.cs_store_records.specs.Records.{Rests};
 ghost use Rattle.sqlite.specs.Held.{state};
 ghost use Rattle.cs_rows.specs.Faults.{IsCaused, IsResource, IsReadRefusal};
 ghost use Rattle.cs_store_records.specs.Failing.{puts, removes};
@@ -45,6 +46,9 @@ pub fn find_schema<S: Alter>(
     ensures named { IfErr result IsReadRefusal }
     ensures leads { HasCleanDisk (state S.Store conn.new)
         → OnOk result (LeadsOn (λ _ _. ⊥) (state S.Store conn.old) (state S.Store conn.new)) }
+    ensures reads { HasCleanDisk (state S.Store conn.new)
+        → OnOk result (IsUnchanged (state S.Store conn.old) (state S.Store conn.new)) }
+    ensures rests { HasCleanDisk (state S.Store conn.new) → Rests (state S.Store conn.old) (state S.Store conn.new) }
     ensures kept { KeepsStore (state S.Store conn.old) (state S.Store conn.new) }
 {
     match find_record(conn, "", name.as_bytes()) {
@@ -95,6 +99,9 @@ pub fn find_row<S: Alter>(
     ensures named { IfErr result IsReadRefusal }
     ensures leads { HasCleanDisk (state S.Store conn.new)
         → OnOk result (LeadsOn (λ _ _. ⊥) (state S.Store conn.old) (state S.Store conn.new)) }
+    ensures reads { HasCleanDisk (state S.Store conn.new)
+        → OnOk result (IsUnchanged (state S.Store conn.old) (state S.Store conn.new)) }
+    ensures rests { HasCleanDisk (state S.Store conn.new) → Rests (state S.Store conn.old) (state S.Store conn.new) }
     ensures kept { KeepsStore (state S.Store conn.old) (state S.Store conn.new) }
 {
     match find_record(conn, name, key.bytes()) {
@@ -137,6 +144,9 @@ pub fn list_rows<S: Alter>(
     ensures named { IfErr result IsReadRefusal }
     ensures leads { HasCleanDisk (state S.Store conn.new)
         → OnOk result (LeadsOn (λ _ _. ⊥) (state S.Store conn.old) (state S.Store conn.new)) }
+    ensures reads { HasCleanDisk (state S.Store conn.new)
+        → OnOk result (IsUnchanged (state S.Store conn.old) (state S.Store conn.new)) }
+    ensures rests { HasCleanDisk (state S.Store conn.new) → Rests (state S.Store conn.old) (state S.Store conn.new) }
     ensures kept { KeepsStore (state S.Store conn.old) (state S.Store conn.new) }
 {
     match list_records(conn, alloc, name) {
@@ -236,6 +246,9 @@ pub fn list_tables<S: Alter>(
     ensures caused { IsSound (state S.Store conn.old) → HasCleanDisk (state S.Store conn.new)
         → IfErr result (IsCaused (ReadFails (state S.Store conn.old) (state S.Store conn.new))) }
     ensures named { IfErr result IsReadRefusal }
+    ensures reads { HasCleanDisk (state S.Store conn.new)
+        → OnOk result (IsUnchanged (state S.Store conn.old) (state S.Store conn.new)) }
+    ensures rests { HasCleanDisk (state S.Store conn.new) → Rests (state S.Store conn.old) (state S.Store conn.new) }
     ensures kept { KeepsStore (state S.Store conn.old) (state S.Store conn.new) }
 {
     match list_records(conn, alloc, "") {
