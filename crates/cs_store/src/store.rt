@@ -282,7 +282,8 @@ impl<S: Alter> Store<S> {
         ensures named { IfErr result IsReadRefusal }
         ensures reads { HasCleanDisk (state S.Store self.new) → is_answered result ≡ true
             → IsUnchanged (state S.Store self.old) (state S.Store self.new) }
-        ensures rests { HasCleanDisk (state S.Store self.new) → Rests (state S.Store self.old) (state S.Store self.new) }
+        ensures rests { HasCleanDisk (state S.Store self.new)
+            → Rests (state S.Store self.old) (state S.Store self.new) }
         ensures kept { KeepsStore (state S.Store self.old) (state S.Store self.new) }
     {
         self.known = None;
@@ -307,7 +308,8 @@ impl<S: Alter> Store<S> {
         ensures named { IfErr result IsReadRefusal }
         ensures reads { HasCleanDisk (state S.Store self.new) → is_answered result ≡ true
             → IsUnchanged (state S.Store self.old) (state S.Store self.new) }
-        ensures rests { HasCleanDisk (state S.Store self.new) → Rests (state S.Store self.old) (state S.Store self.new) }
+        ensures rests { HasCleanDisk (state S.Store self.new)
+            → Rests (state S.Store self.old) (state S.Store self.new) }
         ensures kept { KeepsStore (state S.Store self.old) (state S.Store self.new) }
     {
         cs_store_tables::find_schema(&mut self.conn, &mut self.known, alloc, name)
@@ -335,7 +337,8 @@ impl<S: Alter> Store<S> {
         ensures named { IfErr result (λ e. (e ≡ NoSuchTable) ⊎ IsReadRefusal e) }
         ensures reads { HasCleanDisk (state S.Store self.new) → is_answered result ≡ true
             → IsUnchanged (state S.Store self.old) (state S.Store self.new) }
-        ensures rests { HasCleanDisk (state S.Store self.new) → Rests (state S.Store self.old) (state S.Store self.new) }
+        ensures rests { HasCleanDisk (state S.Store self.new)
+            → Rests (state S.Store self.old) (state S.Store self.new) }
         ensures kept { KeepsStore (state S.Store self.old) (state S.Store self.new) }
     {
         let listed = cs_store_tables::list_rows(&mut self.conn, &mut self.known, alloc, name)?;
@@ -368,7 +371,8 @@ impl<S: Alter> Store<S> {
         ensures named { IfErr result (λ e. (e ≡ NoSuchTable) ⊎ IsReadRefusal e) }
         ensures reads { HasCleanDisk (state S.Store self.new) → is_answered result ≡ true
             → IsUnchanged (state S.Store self.old) (state S.Store self.new) }
-        ensures rests { HasCleanDisk (state S.Store self.new) → Rests (state S.Store self.old) (state S.Store self.new) }
+        ensures rests { HasCleanDisk (state S.Store self.new)
+            → Rests (state S.Store self.old) (state S.Store self.new) }
         ensures kept { KeepsStore (state S.Store self.old) (state S.Store self.new) }
     {
         let found = cs_store_tables::find_row(&mut self.conn, &mut self.known, alloc, name, key)?;

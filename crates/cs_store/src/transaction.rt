@@ -298,7 +298,8 @@ impl<S: Alter> Transaction<S> {
         ensures named { IfErr result IsReadRefusal }
         ensures reads { HasCleanDisk (state S.Store self.new) → is_answered result ≡ true
             → IsUnchanged (state S.Store self.old) (state S.Store self.new) }
-        ensures rests { HasCleanDisk (state S.Store self.new) → Rests (state S.Store self.old) (state S.Store self.new) }
+        ensures rests { HasCleanDisk (state S.Store self.new)
+            → Rests (state S.Store self.old) (state S.Store self.new) }
         ensures kept { KeepsStore (state S.Store self.old) (state S.Store self.new) }
     {
         self.store.tables(alloc)
@@ -322,7 +323,8 @@ impl<S: Alter> Transaction<S> {
         ensures named { IfErr result IsReadRefusal }
         ensures reads { HasCleanDisk (state S.Store self.new) → is_answered result ≡ true
             → IsUnchanged (state S.Store self.old) (state S.Store self.new) }
-        ensures rests { HasCleanDisk (state S.Store self.new) → Rests (state S.Store self.old) (state S.Store self.new) }
+        ensures rests { HasCleanDisk (state S.Store self.new)
+            → Rests (state S.Store self.old) (state S.Store self.new) }
         ensures kept { KeepsStore (state S.Store self.old) (state S.Store self.new) }
     {
         self.store.schema(alloc, name)
@@ -350,7 +352,8 @@ impl<S: Alter> Transaction<S> {
         ensures named { IfErr result (λ e. (e ≡ NoSuchTable) ⊎ IsReadRefusal e) }
         ensures reads { HasCleanDisk (state S.Store self.new) → is_answered result ≡ true
             → IsUnchanged (state S.Store self.old) (state S.Store self.new) }
-        ensures rests { HasCleanDisk (state S.Store self.new) → Rests (state S.Store self.old) (state S.Store self.new) }
+        ensures rests { HasCleanDisk (state S.Store self.new)
+            → Rests (state S.Store self.old) (state S.Store self.new) }
         ensures kept { KeepsStore (state S.Store self.old) (state S.Store self.new) }
     {
         self.store.rows(alloc, name)
@@ -379,7 +382,8 @@ impl<S: Alter> Transaction<S> {
         ensures named { IfErr result (λ e. (e ≡ NoSuchTable) ⊎ IsReadRefusal e) }
         ensures reads { HasCleanDisk (state S.Store self.new) → is_answered result ≡ true
             → IsUnchanged (state S.Store self.old) (state S.Store self.new) }
-        ensures rests { HasCleanDisk (state S.Store self.new) → Rests (state S.Store self.old) (state S.Store self.new) }
+        ensures rests { HasCleanDisk (state S.Store self.new)
+            → Rests (state S.Store self.old) (state S.Store self.new) }
         ensures kept { KeepsStore (state S.Store self.old) (state S.Store self.new) }
     {
         self.store.get(alloc, name, key)
