@@ -28,8 +28,8 @@ use std::alloc::Global;
 ///
 /// # Errors
 ///
-/// Those of [`run_in`], and `StoreFault` or `NoMemory` if the transaction has ended. After a refusal the transaction shows
-/// what it showed before. Or the error is of the store or `NoMemory`, the transaction has ended
+/// Those of [`run_in`], and `StoreFault` or `NoMemory` if the transaction has ended. After a refusal the transaction
+/// shows what it showed before. Or the error is of the store or `NoMemory`, the transaction has ended
 /// ([`Transaction::has_ended`]), and the store is as it was when the transaction began.
 pub fn apply_in_transaction<S: Alter + Drop, H: Fn(&Conflict) -> Choice>(
     alloc: Global,

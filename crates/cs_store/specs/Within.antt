@@ -9,7 +9,7 @@ use Rattle.cs_store_tables.specs.Store.{HoldsState, IsInside, KeepsStore, tables
 
 -- If the disk has returned what was written: a call is accepted, the transaction is open, and `Makes` holds of its
 -- tables. Or it is refused: the transaction shows what it showed before, or it has ended, and the store is as it was
--- committed last. An open one ends only with an error of which `MayEnd` holds. Nothing is committed. A transaction that
+-- committed last. An open one ends only with an error for which `MayEnd` holds. Nothing is committed. A transaction that
 -- is still open has the marks that it had.
 pub record Within {X E : Type 0} (Makes : tables.State → Type 0) (MayEnd : E → Type 0) (old new : State)
     (result : Result X E) : Type 0 where

@@ -33,9 +33,9 @@ use std::marker::Model;
 /// A transaction that owns its store. Reads show what it wrote, and nothing lasts before
 /// [`commit`](Transaction::commit).
 ///
-/// A call that fails with `StoreFault`, `NoMemory` or `DamagedStore` may end it. Then reads show the store as it was when
-/// the transaction began, and each call that writes or commits is refused. Dropping it drops the store too, and what was
-/// written is lost; [`roll_back`](Transaction::roll_back) gives the store back.
+/// A call that fails with `StoreFault`, `NoMemory` or `DamagedStore` may end it. Then reads show the store as it was
+/// when the transaction began, and each call that writes or commits is refused. Dropping it drops the store too, and
+/// what was written is lost; [`roll_back`](Transaction::roll_back) gives the store back.
 #[derive(Drop)]
 pub struct Transaction<S: Alter> {
     pub(crate) store: Store<S>,
@@ -197,8 +197,8 @@ impl<S: Alter + Drop> Transaction<S> {
         }
     }
 
-    /// Goes back to the newest mark, and drops it. If the transaction is open, the mark must be there, and must have been
-    /// set where it showed tables.
+    /// Goes back to the newest mark, and drops it. If the transaction is open, the mark must be there, and must have
+    /// been set where it showed tables.
     ///
     /// # Errors
     ///
@@ -398,9 +398,9 @@ impl<S: Alter + Drop> Transaction<S> {
     ///
     /// # Errors
     ///
-    /// `BadSchema` if the name or the columns make no table, and then `TableExists`. `DamagedStore` and `NoMemory` as of
-    /// [`tables`](Transaction::tables). `StoreFault` or `NoMemory` if the transaction has ended, and `StoreFault` if the
-    /// database refuses. What a refusal leaves is as of [`edit`](Transaction::edit).
+    /// `BadSchema` if the name or the columns make no table, and then `TableExists`. `DamagedStore` and `NoMemory` as
+    /// for [`tables`](Transaction::tables). `StoreFault` or `NoMemory` if the transaction has ended, and `StoreFault` if
+    /// the database refuses. A refusal leaves what one of [`edit`](Transaction::edit) leaves.
     pub fn declare(
         &mut self,
         alloc: Global,
@@ -461,8 +461,8 @@ impl<S: Alter + Drop> Transaction<S> {
     ///
     /// # Errors
     ///
-    /// Those of [`edit_in`], and `StoreFault` or `NoMemory` if the transaction has ended. After a refusal the transaction
-    /// shows what it showed before. Or the error is `StoreFault`, `NoMemory` or `DamagedStore`, the transaction has
+    /// Those of [`edit_in`], and `StoreFault` or `NoMemory` if the transaction has ended. After a refusal the
+    /// transaction shows what it showed before. Or the error is `StoreFault`, `NoMemory` or `DamagedStore`, the transaction has
     /// [ended](Transaction::has_ended), and the store is as it was when the transaction began.
     pub fn edit(&mut self, alloc: Global, edit: &Edit) -> Result<Vec<Written>, StoreError>
         ensures edited { HasCleanDisk (state S.Store self.new)

@@ -24,7 +24,7 @@ use Rattle.cs_rows.proofs.CauseLemmas.{not_own}
 use Rattle.cs_value.specs.State as tables
 use Rattle.cs_rows.specs.Rows.{puts_row, removes_row}
 
--- what holds of an accepted call holds of one that was answered, where the rows alone refuse it
+-- what holds of an accepted call holds of one that was answered, where only the rows refuse it
 pub answered : {X : Type 0} (r : Result X StoreError) (P : Type 0) → IfErr r IsReadRefusal → OnOk r P → is_answered r ≡ true → P
 answered (Ok x) P refused holds is = holds
 answered (Err e) P refused holds is = absurd (true≢false (sym is ∙ not_own e refused))
