@@ -10,11 +10,11 @@ use Rattle.cs_value.specs.Table.{IsName}
 use Rattle.cs_value.specs.State.{SchemaData, IsSchema, State, schema_at, rows_at}
 use Rattle.cs_rows.specs.declared.fault.StoreError.{StoreError}
 use Rattle.cs_store.specs.Faults.{IsReadRefusal, refused_for}
-use Rattle.cs_session.specs.declared.attached.Attached.{Attached}
-use Rattle.cs_session.specs.FirstImages.{AttachedTable, Notes, IsAttachedTable, IsNotes, rewound_rows, rewound}
-use Rattle.cs_session.specs.Attaching.{IsNewTable, Attaches, IsAttachRefusal}
-use Rattle.cs_session.specs.Faults.{fault_of}
-use Rattle.cs_session.specs.Views.{attached_of, IsIndexOf, HasNonePending}
+use Rattle.cs_session_notes.specs.declared.attached.Attached.{Attached}
+use Rattle.cs_session_notes.specs.FirstImages.{AttachedTable, Notes, IsAttachedTable, IsNotes, rewound_rows, rewound}
+use Rattle.cs_session_notes.specs.Attaching.{IsNewTable, Attaches, IsAttachRefusal}
+use Rattle.cs_session_notes.specs.Faults.{fault_of}
+use Rattle.cs_session_notes.specs.Views.{attached_of, IsIndexOf, HasNonePending}
 
 -- ---- a name
 

@@ -26,8 +26,8 @@ use Rattle.cs_apply_conflicts.proofs.ConflictLemmas.{between}
 use Rattle.cs_group.proofs.KeyPlaceLemmas.{row_under}
 use Rattle.cs_apply_conflicts.proofs.NetLemmas.{NetLeads, net_leads}
 use Rattle.cs_apply_conflicts.proofs.RuleLemmas.{found_obeys}
-use Rattle.cs_session.specs.FirstImages.{FirstImage, AttachedTable, Notes, IsAttachedTable, IsNotes, HasAttached, first_at, entry_since, header_of, group_of, recorded_changes, rewound_state}
-use Rattle.cs_session.proofs.FirstLemmas.{put_all_at}
+use Rattle.cs_session_notes.specs.FirstImages.{FirstImage, AttachedTable, Notes, IsAttachedTable, IsNotes, HasAttached, first_at, entry_since, header_of, group_of, recorded_changes, rewound_state}
+use Rattle.cs_session_notes.proofs.FirstLemmas.{put_all_at}
 use Rattle.cs_session.proofs.RewoundLemmas.{rewound_schemas, rewound_is_state, rewound_elsewhere, IsRewound, rewound_here}
 
 -- ---- the entry of a key

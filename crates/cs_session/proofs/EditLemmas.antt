@@ -19,15 +19,15 @@ use Rattle.cs_store.specs.Editing.{Edited, row_fault, unless, has_row, when, ins
 use Rattle.cs_apply_conflicts.specs.Laws.{TellsFormer}
 use Rattle.cs_apply_rows.specs.Steps.{with_result}
 use Rattle.cs_apply_rows.proofs.WriteLemmas.{result_schemas, result_elsewhere}
-use Rattle.cs_session.specs.declared.fault.SessionFault.{SessionFault}
-use Rattle.cs_session.specs.declared.fault.SessionFault.TheVariants.{NoMemory as OutOfMemory}
-use Rattle.cs_session.specs.Faults.{fault_of}
-use Rattle.cs_session.specs.FirstImages.{AttachedTable, Notes, IsNotes, HasAttached, writes_of, recorded, rewound}
-use Rattle.cs_session.specs.Noting.{AreFormers, IsDamage}
-use Rattle.cs_session.specs.Changes.{HasNamed}
+use Rattle.cs_session_notes.specs.declared.fault.SessionFault.{SessionFault}
+use Rattle.cs_session_notes.specs.declared.fault.SessionFault.TheVariants.{NoMemory as OutOfMemory}
+use Rattle.cs_session_notes.specs.Faults.{fault_of}
+use Rattle.cs_session_notes.specs.FirstImages.{AttachedTable, Notes, IsNotes, HasAttached, writes_of, recorded, rewound}
+use Rattle.cs_session_notes.specs.Noting.{AreFormers, IsDamage}
+use Rattle.cs_session_notes.specs.Changes.{HasNamed}
 use Rattle.cs_session.specs.Recording.{Records, RefusesEdit, table_of}
-use Rattle.cs_session.proofs.NotesLemmas.{only_writes, tells_formers, recorded_are}
-use Rattle.cs_session.proofs.FirstLemmas.{rewound_recorded}
+use Rattle.cs_session_notes.proofs.NotesLemmas.{only_writes, tells_formers, recorded_are}
+use Rattle.cs_session_notes.proofs.FirstLemmas.{rewound_recorded}
 
 -- the tables stay, and what is told of the writes, all of one table, says which rows stood there
 pub record Tells (old : State) (name : List ℕ) (done : Edited) : Type 0 where

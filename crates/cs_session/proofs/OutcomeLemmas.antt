@@ -29,9 +29,9 @@ use Rattle.cs_apply_rows.specs.Running as applying
 use Rattle.cs_apply_rows.specs.Running.{Handler, AlwaysAborts, Applies, Refuses, Leads}
 use Rattle.cs_apply.proofs.RevertLemmas.{reverts_ok, reverts_err, applies_weaker, refuses_weaker}
 use Rattle.cs_store.specs.Faults.{IsStoreFault}
-use Rattle.cs_session.specs.Faults.{apply_fault_of}
-use Rattle.cs_session.specs.FirstImages.{AttachedTable, Notes, IsNotes, HasAttached, rewound, rewound_state, recorded_changes}
-use Rattle.cs_session.specs.Changes.{HasTables, IsOfStore, RefusesChanges}
+use Rattle.cs_session_notes.specs.Faults.{apply_fault_of}
+use Rattle.cs_session_notes.specs.FirstImages.{AttachedTable, Notes, IsNotes, HasAttached, rewound, rewound_state, recorded_changes}
+use Rattle.cs_session_notes.specs.Changes.{HasTables, IsOfStore, RefusesChanges}
 use Rattle.cs_session.specs.Undoing.{LeadsBackTo, Undoes}
 use Rattle.cs_session.proofs.RewoundLemmas.{rewound_here, all_rewound}
 use Rattle.cs_session.proofs.ChangesLemmas.{before_is, changes_are, changes_clean, changes_applied, all_compatible}

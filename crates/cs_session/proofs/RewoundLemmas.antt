@@ -13,7 +13,7 @@ use Rattle.cs_value.proofs.ListLemmas.{PairsByRecursion}
 use Rattle.cs_value.proofs.StateLemmas.{table_of_schema, table_insert, table_remove, state_insert, row_at_fits}
 use Rattle.cs_rows.proofs.MemoryLemmas.{with_rows_found}
 use Rattle.cs_rows.proofs.WrittenRows.{same_schemas, rows_here, rows_other}
-use Rattle.cs_session.specs.FirstImages.{FirstImage, AttachedTable, Notes, IsAttachedTable, HasAttached, put_back, put_all_back, rewound_rows, rewound, rewound_state}
+use Rattle.cs_session_notes.specs.FirstImages.{FirstImage, AttachedTable, Notes, IsAttachedTable, HasAttached, put_back, put_all_back, rewound_rows, rewound, rewound_state}
 
 pub other_name : (name table : List ℕ) → ¬ (table ≡ name) → is_eq (slice_cmp nat_cmp name table) ≡ false
 other_name name table apart = at (is_eq (slice_cmp nat_cmp name table)) refl

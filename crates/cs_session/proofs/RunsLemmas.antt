@@ -20,18 +20,19 @@ use Rattle.cs_store.specs.Records.{KeepsContent}
 use Rattle.cs_store.specs.Store.{tables_in}
 use Rattle.cs_apply_conflicts.specs.Laws.{TellsFormer}
 use Rattle.cs_apply_conflicts.specs.declared.conflict.Noop.{Noop}
+use Rattle.cs_apply_rows.specs.declared.running.Direction.{Direction}
 use Rattle.cs_apply_conflicts.specs.Applying.{written_under}
 use Rattle.cs_apply_conflicts.proofs.ApplyLemmas.{written_tells}
 use Rattle.cs_apply_rows.specs.declared.report.Report.{Report}
 use Rattle.cs_apply_rows.specs.Running.{Handler}
-use Rattle.cs_session.specs.FirstImages.{FirstImage, AttachedTable, Notes, HasAttached, first_at, put_all_back, rewound_rows, rewound, rewound_state, noted_in, recorded}
-use Rattle.cs_session.specs.Attaching.{Attaches}
+use Rattle.cs_session_notes.specs.FirstImages.{FirstImage, AttachedTable, Notes, HasAttached, first_at, put_all_back, rewound_rows, rewound, rewound_state, noted_in, recorded}
+use Rattle.cs_session_notes.specs.Attaching.{Attaches}
 use Rattle.cs_session.specs.Recording.{Records, RecordsApply, table_of}
 use Rattle.cs_session.specs.Undoing.{Undoes}
 use Rattle.cs_session.specs.Runs.{Moment, IsMoment, DeclaresTable, AttachesTable, EditsRow, AppliesChangeset, UndoesAll, Refused, Step, Run, ending, rows_attached, all_attached, RowsFromBefore}
-use Rattle.cs_session.proofs.FirstLemmas.{put_all_at, rewound_recorded}
+use Rattle.cs_session_notes.proofs.FirstLemmas.{put_all_at, rewound_recorded}
 use Rattle.cs_session.proofs.RewoundLemmas.{other_name, rewound_schemas, IsRewound, rewound_here, all_rewound}
-use Rattle.cs_session.proofs.NotesLemmas.{names_stay}
+use Rattle.cs_session_notes.proofs.NotesLemmas.{names_stay}
 use Rattle.cs_session.proofs.EditLemmas.{Tells, IfDone, edited_tells}
 
 -- ---- the tables of a session
@@ -187,8 +188,8 @@ rows_from_before m later is run =
 
 -- ---- calls that succeed are steps
 
-unfoldable pub applied_step : (chooses : Handler) (noop : Noop) (file : List ℕ) (m n : Moment) (report : Report) → RecordsApply chooses noop file m.state m.notes report n.state n.notes → Step m n
-applied_step chooses noop file m n report done = inr (inr (inr (inl (record {
+unfoldable pub applied_step : (chooses : Handler) (noop : Noop) (file : List ℕ) (direction : Direction) (m n : Moment) (report : Report) → RecordsApply chooses noop file direction m.state m.notes report n.state n.notes → Step m n
+applied_step chooses noop file direction m n report done = inr (inr (inr (inl (record {
   changeset = done.applied.changeset;
   noop = noop;
   choose = done.applied.choose;

@@ -1,13 +1,10 @@
-pub mod FirstImages
-pub mod Attaching
-pub mod Noting
-pub mod Changes
 pub mod Recording
 pub mod Undoing
 pub mod Runs
-pub mod Faults
-pub mod Images
-pub mod Views
 pub use Rattle.cs_value.specs.State
 pub use Rattle.cs_wire.specs.Changeset
 pub use Rattle.cs_apply_conflicts.specs.Applying
+pub use Rattle.cs_session_notes.specs.FirstImages
+pub use Rattle.cs_session_notes.specs.Attaching
+pub use Rattle.cs_session_notes.specs.Changes
+pub use Rattle.cs_session_notes.specs.Faults

@@ -8,15 +8,15 @@ use Rattle.cs_rows.specs.Faults.{IsStoreFault}
 use Rattle.cs_store.specs.Editing.{written_of, edited}
 use Rattle.cs_store.specs.Faults as store
 use Rattle.cs_apply_rows.specs.declared.report.Report.{Report}
-use Rattle.cs_apply_rows.specs.declared.running.Direction.TheVariants.{Forward}
+use Rattle.cs_apply_rows.specs.declared.running.Direction.{Direction}
 use Rattle.cs_apply_rows.specs.declared.fault.ApplyFault.{ApplyFault}
 use Rattle.cs_apply_rows.specs.declared.fault.ApplyFault.TheVariants as apply_fault
 use Rattle.cs_apply_conflicts.specs.declared.conflict.Noop.{Noop}
 use Rattle.cs_apply_rows.specs.Running.{Handler, Applies, Refuses}
-use Rattle.cs_session.specs.declared.fault.SessionFault.{SessionFault}
-use Rattle.cs_session.specs.declared.fault.SessionFault.TheVariants.{Store, Apply, AlreadyAttached, WrongStore, NoMemory}
-use Rattle.cs_session.specs.FirstImages.{Notes, recorded}
-use Rattle.cs_session.specs.Changes.{HasTables, LacksTable, HasNamed, LacksNamed}
+use Rattle.cs_session_notes.specs.declared.fault.SessionFault.{SessionFault}
+use Rattle.cs_session_notes.specs.declared.fault.SessionFault.TheVariants.{Store, Apply, AlreadyAttached, WrongStore, NoMemory}
+use Rattle.cs_session_notes.specs.FirstImages.{Notes, recorded}
+use Rattle.cs_session_notes.specs.Changes.{HasTables, LacksTable, HasNamed, LacksNamed}
 
 -- the table that an edit is of
 abbrev pub table_of : Edit → List ℕ
@@ -48,20 +48,20 @@ IsEditRefusal NoMemory = Unit {0}
 IsEditRefusal AlreadyAttached = ⊥
 IsEditRefusal (Apply fault) = ⊥
 
--- the file is applied, with what the report tells, and the keys that were written are noted
-pub record RecordsApply (chooses : Handler) (noop : Noop) (file : List ℕ) (old : State) (notes : Notes) (report : Report)
+-- the file, or its inverse, is applied with this report, and the keys that were written are noted
+pub record RecordsApply (chooses : Handler) (noop : Noop) (file : List ℕ) (direction : Direction) (old : State) (notes : Notes) (report : Report)
     (new : State) (after : Notes) : Type 0 where
   pub attached : HasTables old notes
-  pub applied : Applies chooses noop file Forward old report new
+  pub applied : Applies chooses noop file direction old report new
   pub noted : after ≡ recorded notes (map written_of report.written.items)
 
 -- why it is not
-abbrev pub RefusesApply : Handler → Noop → List ℕ → State → Notes → SessionFault → Type 0
-RefusesApply chooses noop file old notes WrongStore = LacksTable old notes
-RefusesApply chooses noop file old notes (Apply fault) = HasTables old notes × Refuses chooses noop file Forward old fault
-RefusesApply chooses noop file old notes (Store error) = IsStoreFault error
-RefusesApply chooses noop file old notes NoMemory = Unit {0}
-RefusesApply chooses noop file old notes AlreadyAttached = ⊥
+abbrev pub RefusesApply : Handler → Noop → List ℕ → Direction → State → Notes → SessionFault → Type 0
+RefusesApply chooses noop file direction old notes WrongStore = LacksTable old notes
+RefusesApply chooses noop file direction old notes (Apply fault) = HasTables old notes × Refuses chooses noop file direction old fault
+RefusesApply chooses noop file direction old notes (Store error) = IsStoreFault error
+RefusesApply chooses noop file direction old notes NoMemory = Unit {0}
+RefusesApply chooses noop file direction old notes AlreadyAttached = ⊥
 
 -- a fault of the changeset, or of what it meets: the store's refusals and want of memory are told as the session's own
 abbrev pub IsOfChangeset : ApplyFault → Type 0

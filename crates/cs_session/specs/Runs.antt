@@ -8,9 +8,9 @@ use Rattle.cs_rows.specs.declared.edit.Edit.{Edit}
 use Rattle.cs_store.specs.Editing.{Declares}
 use Rattle.cs_apply_conflicts.specs.declared.conflict.Noop.{Noop}
 use Rattle.cs_apply_conflicts.specs.Applying.{Choices, IsAppliedUnder, written_under}
-use Rattle.cs_session.specs.FirstImages.{Notes, rewound, rewound_state, recorded}
-use Rattle.cs_session.specs.Attaching.{Attaches}
-use Rattle.cs_session.specs.Changes.{HasTables}
+use Rattle.cs_session_notes.specs.FirstImages.{Notes, rewound, rewound_state, recorded}
+use Rattle.cs_session_notes.specs.Attaching.{Attaches}
+use Rattle.cs_session_notes.specs.Changes.{HasTables}
 use Rattle.cs_session.specs.Recording.{Records}
 
 -- the tables of the store, and what the session remembers

@@ -9,10 +9,10 @@ use Rattle.cs_apply_conflicts.specs.declared.conflict.Noop.TheVariants as noop
 use Rattle.cs_apply_rows.specs.Running.{Applies, AlwaysAborts, IsNoReadFault, directed}
 use Rattle.cs_apply_rows.specs.Writes.{IsRunWrite}
 use Rattle.cs_rows.specs.Rows.{Write}
-use Rattle.cs_session.specs.declared.fault.SessionFault.{SessionFault}
-use Rattle.cs_session.specs.declared.fault.SessionFault.TheVariants.{Apply}
-use Rattle.cs_session.specs.FirstImages.{Notes, rewound, rewound_state, recorded_changes}
-use Rattle.cs_session.specs.Changes.{HasTables}
+use Rattle.cs_session_notes.specs.declared.fault.SessionFault.{SessionFault}
+use Rattle.cs_session_notes.specs.declared.fault.SessionFault.TheVariants.{Apply}
+use Rattle.cs_session_notes.specs.FirstImages.{Notes, rewound, rewound_state, recorded_changes}
+use Rattle.cs_session_notes.specs.Changes.{HasTables}
 use Rattle.cs_session.specs.Recording.{IsApplyRefusal, IsOfChangeset}
 
 -- the changeset meets no conflict in the state with the rows from before, and makes this one of it

@@ -10,101 +10,62 @@ ghost use Rattle.cs_store.specs.Failing.{StoreFails, Writes};
 ghost use Rattle.cs_store.specs.Records.{KeepsContent, KeepsOthers};
 ghost use Rattle.cs_store.specs.Transacts.{Transacts};
 ghost use Rattle.cs_store.specs.Store.{IsAtRest, RefusesShut, tables_in};
-ghost use Rattle.cs_apply_rows.specs.declared.running.Direction.TheVariants.{Forward as ForwardRun};
 ghost use Rattle.cs_apply_rows.specs.Writes.{IsFileWrite};
 ghost use Rattle.cs_apply.specs.Crash.{AppliesInto};
-ghost use Rattle.cs_session.specs.Changes.{IsCaused, IsResource};
-ghost use Rattle.cs_session.specs.FirstImages.{IsNotes};
+ghost use Rattle.cs_session_notes.specs.Changes.{IsCaused, IsResource, is_answered};
+ghost use Rattle.cs_session_notes.specs.FirstImages.{IsNotes};
 ghost use Rattle.cs_session.specs.Recording.{RecordsApply, RefusesApply, IsApplyRefusal};
-ghost use Rattle.cs_session.specs.Views.{attached_of, kept_of, HasNonePending};
+ghost use Rattle.cs_session_notes.specs.Views.{attached_of, kept_of, HasNonePending};
 
-use crate::checking::check_tables;
-use crate::fault::SessionFault;
-use crate::tables::AttachedTables;
 use cs_apply::{Choice, Conflict, Direction, Noop, Report, run_in};
+use cs_session_notes::{AttachedTables, SessionFault, check_tables};
 use cs_store::{Rows, Store};
 use sqlite::Alter;
 use std::alloc::Global;
 
-/// Applies a file, notes the keys that were written, and commits. A refusal changes nothing.
-pub(crate) fn apply_noted<S: Alter, H: Fn(&Conflict) -> Choice>(
+/// Applies a file, or its inverse, in a batch of a store, notes the keys that were written, and commits the batch. After
+/// a refusal the kept notes are as before.
+pub(crate) fn apply_batch<S: Alter, H: Fn(&Conflict) -> Choice>(
     alloc: Global,
     tables: &mut AttachedTables,
     store: &mut Store<S>,
     file: &[u8],
-    noop: Noop,
-    handler: &H,
-) -> Result<Report, SessionFault>
-    requires callable { H.IsAlwaysCallable handler.now }
-    requires notes { IsNotes (map attached_of tables.old) }
-    requires none_pending { AllByRecursion HasNonePending tables.old }
-    ensures recorded { HasCleanDisk (state S.Store store.new) → IfOk result (λ report.
-        RecordsApply (FnReturnsAt H.Fn handler.now) noop file.now (tables_in (state S.Store store.old).now)
-        (map attached_of tables.old) report (tables_in (state S.Store store.new).now) (map attached_of tables.new)) }
-    ensures same { OnErr result (map attached_of tables.new ≡ map attached_of tables.old) }
-    ensures well_formed { IsNotes (map attached_of tables.new) }
-    ensures none_pending { AllByRecursion HasNonePending tables.new }
-    ensures refused { HasCleanDisk (state S.Store store.new) → IfErr result (RefusesApply (FnReturnsAt H.Fn handler.now)
-        noop file.now (tables_in (state S.Store store.old).now) (map attached_of tables.old)) }
-    ensures shut { HasCleanDisk (state S.Store store.new) → RefusesShut (state S.Store store.old) IsResource result }
-    ensures caused { HasCleanDisk (state S.Store store.new) → IfErr result (IsCaused
-        (StoreFails (Writes (IsFileWrite ForwardRun file.now)) (state S.Store store.old) (state S.Store store.new))) }
-    ensures named { IfErr result IsApplyRefusal }
-    ensures transacts { Transacts (AppliesInto (FnReturnsAt H.Fn handler.now) noop file.now ForwardRun (tables_in (state S.Store store.old).now))
-        (state S.Store store.old) (state S.Store store.new) result }
-{
-    match apply_batch(alloc, tables, store, file, noop, handler) {
-        Ok(report) => {
-            tables.keep();
-            Ok(report)
-        }
-        Err(fault) => {
-            tables.cut_back();
-            Err(fault)
-        }
-    }
-}
-
-/// Applies a file in a batch of a store, notes the keys that were written, and commits the batch. Where
-/// it is refused, what was noted at the last commit stands.
-fn apply_batch<S: Alter, H: Fn(&Conflict) -> Choice>(
-    alloc: Global,
-    tables: &mut AttachedTables,
-    store: &mut Store<S>,
-    file: &[u8],
+    direction: Direction,
     noop: Noop,
     handler: &H,
 ) -> Result<Report, SessionFault>
     requires callable { H.IsAlwaysCallable handler.now }
     requires notes { IsNotes (map attached_of tables.old) }
     ensures recorded { HasCleanDisk (state S.Store store.new) → IfOk result (λ report.
-        RecordsApply (FnReturnsAt H.Fn handler.now) noop file.now (tables_in (state S.Store store.old).now)
+        RecordsApply (FnReturnsAt H.Fn handler.now) noop file.now direction (tables_in (state S.Store store.old).now)
         (map attached_of tables.old) report (tables_in (state S.Store store.new).now) (map attached_of tables.new)) }
     ensures well_formed { OnOk result (IsNotes (map attached_of tables.new)) }
     ensures notes { map kept_of tables.new ≡ map kept_of tables.old }
     ensures refused { HasCleanDisk (state S.Store store.new) → IfErr result (RefusesApply (FnReturnsAt H.Fn handler.now)
-        noop file.now (tables_in (state S.Store store.old).now) (map attached_of tables.old)) }
+        noop file.now direction (tables_in (state S.Store store.old).now) (map attached_of tables.old)) }
     ensures shut { HasCleanDisk (state S.Store store.new) → RefusesShut (state S.Store store.old) IsResource result }
     ensures caused { HasCleanDisk (state S.Store store.new) → IfErr result (IsCaused
-        (StoreFails (Writes (IsFileWrite ForwardRun file.now)) (state S.Store store.old) (state S.Store store.new))) }
+        (StoreFails (Writes (IsFileWrite direction file.now)) (state S.Store store.old) (state S.Store store.new))) }
     ensures named { IfErr result IsApplyRefusal }
-    ensures transacts { Transacts (AppliesInto (FnReturnsAt H.Fn handler.now) noop file.now ForwardRun (tables_in (state S.Store store.old).now))
+    ensures transacts { Transacts (AppliesInto (FnReturnsAt H.Fn handler.now) noop file.now direction (tables_in (state S.Store store.old).now))
         (state S.Store store.old) (state S.Store store.new) result }
 {
     store.tables_law();
     store.crash_law();
     let mut batch = store.begin()?;
-    let report = apply_rows(alloc, tables, &mut batch, file, noop, handler)?;
+    let report = apply_rows(alloc, tables, &mut batch, file, direction, noop, handler)?;
     batch.commit()?;
     Ok(report)
 }
 
-/// Applies a file to rows, and notes the keys that were written.
-fn apply_rows<B: Rows, H: Fn(&Conflict) -> Choice>(
+/// Applies a file, or its inverse, to rows, and notes the keys that were written. After a refusal the kept notes are as
+/// before.
+pub(crate) fn apply_rows<B: Rows, H: Fn(&Conflict) -> Choice>(
     alloc: Global,
     tables: &mut AttachedTables,
     rows: &mut B,
     file: &[u8],
+    direction: Direction,
     noop: Noop,
     handler: &H,
 ) -> Result<Report, SessionFault>
@@ -112,20 +73,20 @@ fn apply_rows<B: Rows, H: Fn(&Conflict) -> Choice>(
     requires notes { IsNotes (map attached_of tables.old) }
     requires state { B.is_honest rows.old → IsState (B.state rows.old) }
     ensures recorded { B.is_honest rows.new → IfOk result (λ report.
-        RecordsApply (FnReturnsAt H.Fn handler.now) noop file.now (B.state rows.old)
+        RecordsApply (FnReturnsAt H.Fn handler.now) noop file.now direction (B.state rows.old)
         (map attached_of tables.old) report (B.state rows.new) (map attached_of tables.new)) }
     ensures well_formed { OnOk result (IsNotes (map attached_of tables.new)) }
     ensures notes { map kept_of tables.new ≡ map kept_of tables.old }
     ensures refused { B.is_honest rows.new → IfErr result (RefusesApply (FnReturnsAt H.Fn handler.now)
-        noop file.now (B.state rows.old) (map attached_of tables.old)) }
+        noop file.now direction (B.state rows.old) (map attached_of tables.old)) }
     ensures named { IfErr result IsApplyRefusal }
     ensures caused { B.is_honest rows.new → IfErr result (IsCaused
-        (B.fails (IsFileWrite ForwardRun file.now) rows.old rows.new)) }
+        (B.fails (IsFileWrite direction file.now) rows.old rows.new)) }
     ensures was_honest { B.is_honest rows.new → B.is_honest rows.old }
-    ensures kept { B.keeps (IsFileWrite ForwardRun file.now) (is_ok result) rows.old rows.new }
+    ensures kept { B.keeps (IsFileWrite direction file.now) (is_answered result) rows.old rows.new }
 {
     check_tables(alloc, rows, tables.as_slice())?;
-    let report = run_in(alloc, rows, file, Direction::Forward, noop, handler)?;
+    let report = run_in(alloc, rows, file, direction, noop, handler)?;
     tables.note_all(alloc, &report.written)?;
     Ok(report)
 }

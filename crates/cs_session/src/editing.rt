@@ -11,58 +11,19 @@ ghost use Rattle.cs_store.specs.Editing.{EditsInto};
 ghost use Rattle.cs_store.specs.Records.{KeepsContent, KeepsOthers};
 ghost use Rattle.cs_store.specs.Transacts.{Transacts};
 ghost use Rattle.cs_store.specs.Store.{IsAtRest, RefusesShut, tables_in};
-ghost use Rattle.cs_session.specs.Changes.{IsCaused, IsResource};
-ghost use Rattle.cs_session.specs.FirstImages.{IsNotes};
+ghost use Rattle.cs_session_notes.specs.Changes.{IsCaused, IsResource, is_answered};
+ghost use Rattle.cs_session_notes.specs.FirstImages.{IsNotes};
 ghost use Rattle.cs_session.specs.Recording.{Records, RefusesEdit, IsEditRefusal, table_of};
-ghost use Rattle.cs_session.specs.Views.{attached_of, kept_of, HasNonePending};
+ghost use Rattle.cs_session_notes.specs.Views.{attached_of, kept_of, HasNonePending};
 
-use crate::checking::check_named;
-use crate::fault::SessionFault;
-use crate::tables::AttachedTables;
+use cs_session_notes::{AttachedTables, SessionFault, check_named};
 use cs_store::{Edit, Rows, Store, edit_in};
 use sqlite::Alter;
 use std::alloc::Global;
 
-/// Carries out an edit, notes the keys that it wrote, and commits. A refusal changes nothing.
-pub(crate) fn edit_noted<S: Alter>(
-    alloc: Global,
-    tables: &mut AttachedTables,
-    store: &mut Store<S>,
-    edit: &Edit,
-) -> Result<(), SessionFault>
-    requires notes { IsNotes (map attached_of tables.old) }
-    requires none_pending { AllByRecursion HasNonePending tables.old }
-    ensures recorded { HasCleanDisk (state S.Store store.new)
-        → OnOk result (Records (tables_in (state S.Store store.old).now) edit.now (map attached_of tables.old)
-        (tables_in (state S.Store store.new).now) (map attached_of tables.new)) }
-    ensures same { OnErr result (map attached_of tables.new ≡ map attached_of tables.old) }
-    ensures well_formed { IsNotes (map attached_of tables.new) }
-    ensures none_pending { AllByRecursion HasNonePending tables.new }
-    ensures refused { HasCleanDisk (state S.Store store.new)
-        → IfErr result (RefusesEdit (tables_in (state S.Store store.old).now) edit.now (map attached_of tables.old)) }
-    ensures shut { HasCleanDisk (state S.Store store.new) → RefusesShut (state S.Store store.old) IsResource result }
-    ensures caused { HasCleanDisk (state S.Store store.new) → IfErr result (IsCaused
-        (StoreFails (Writes (IsWriteOf (tables_in (state S.Store store.old).now) edit.now))
-        (state S.Store store.old) (state S.Store store.new))) }
-    ensures named { IfErr result IsEditRefusal }
-    ensures transacts { Transacts (EditsInto (tables_in (state S.Store store.old).now) edit.now)
-        (state S.Store store.old) (state S.Store store.new) result }
-{
-    match edit_batch(alloc, tables, store, edit) {
-        Ok(()) => {
-            tables.keep();
-            Ok(())
-        }
-        Err(fault) => {
-            tables.cut_back();
-            Err(fault)
-        }
-    }
-}
-
-/// Carries out an edit in a batch of a store, notes the keys that it wrote, and commits the batch. Where
-/// it is refused, what was noted at the last commit stands.
-fn edit_batch<S: Alter>(
+/// Carries out an edit in a batch of a store, notes the keys that it wrote, and commits the batch. After a refusal the
+/// kept notes are as before.
+pub(crate) fn edit_batch<S: Alter>(
     alloc: Global,
     tables: &mut AttachedTables,
     store: &mut Store<S>,
@@ -92,8 +53,8 @@ fn edit_batch<S: Alter>(
     Ok(())
 }
 
-/// Carries out an edit on rows, and notes the keys that it wrote.
-fn edit_rows<B: Rows>(
+/// Carries out an edit on rows, and notes the keys that it wrote. After a refusal the kept notes are as before.
+pub(crate) fn edit_rows<B: Rows>(
     alloc: Global,
     tables: &mut AttachedTables,
     rows: &mut B,
@@ -111,7 +72,7 @@ fn edit_rows<B: Rows>(
     ensures caused { B.is_honest rows.new → IfErr result (IsCaused
         (B.fails (IsWriteOf (B.state rows.old) edit.now) rows.old rows.new)) }
     ensures was_honest { B.is_honest rows.new → B.is_honest rows.old }
-    ensures kept { B.keeps (IsWriteOf (B.state rows.old) edit.now) (is_ok result) rows.old rows.new }
+    ensures kept { B.keeps (IsWriteOf (B.state rows.old) edit.now) (is_answered result) rows.old rows.new }
 {
     check_named(alloc, rows, tables, edited_table(edit))?;
     let written = edit_in(alloc, rows, edit)?;

@@ -9,26 +9,19 @@
 //! session.undo(alloc, &mut store)?;
 //! ```
 //!
-//! `session` has the calls. `tables` has the tables that are attached, by their names, `attached` one of
-//! them, and `first_images` the keys of each that were written, with the rows that stood there first.
-//! `editing` and `applying` carry out what is noted, in a batch that is committed; `changes` makes the net changeset,
-//! and `undoing` applies its inverse. `checking` tells whether a store has the tables as they were attached, `laws`
-//! what holds over all that is done with a session, and `fault` why it refuses. `CALLING.md`, beside this folder, shows
-//! a caller.
+//! `session` has the calls on a store, each of them one transaction, and `transaction` those in a transaction that goes
+//! on. `editing` and `applying` write rows and note the keys, and `undoing` applies the inverse of the net changeset.
+//! `cs_session_notes` has what is noted. `laws` has what holds over all that is done with a session. `CALLING.md`,
+//! alongside this folder, has a caller.
 #![tactic(auto)]
 
 mod applying;
-mod attached;
-mod changes;
-mod checking;
 mod editing;
-mod fault;
-mod first_images;
 mod laws;
 mod session;
-mod tables;
+mod transaction;
 mod undoing;
 
-pub use fault::SessionFault;
+pub use cs_session_notes::SessionFault;
 pub use laws::runs_law;
 pub use session::Session;

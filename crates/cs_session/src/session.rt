@@ -1,38 +1,36 @@
 //! Sessions, and the tables that are attached to them.
-ghost use Rattle.std.specs.Prelude.{◌≡◌, ◌⊎◌, ◌↔◌, [], ◌∷◌, ◌++◌, All, Any, IsTrue, OnOk, OnErr, IfOk, IfErr};
+ghost use Rattle.std.specs.Prelude.{◌≡◌, ◌⊎◌, ◌↔◌, [], ◌∷◌, ◌++◌, All, Any, IsTrue, OnOk, OnErr, IfOk, IfErr, MatchResult};
 ghost use Rattle.std.specs.Fn.{FnReturnsAt};
 ghost use Rattle.sqlite.specs.State.{HasCleanDisk};
 ghost use Rattle.sqlite.specs.Held.{state};
-ghost use Rattle.cs_store.specs.Crash.{CanBegin, IsAtomic, LeavesOnly};
 ghost use Rattle.cs_store.specs.Editing.{EditsInto, IsWriteOf};
 ghost use Rattle.cs_store.specs.Failing.{ReadFails, StoreFails, Writes};
 ghost use Rattle.cs_store.specs.Records.{KeepsContent, KeepsCrash, KeepsOthers};
 ghost use Rattle.cs_store.specs.Transacts.{Transacts};
 ghost use Rattle.cs_store.specs.Store.{IsAtRest, KeepsStore, RefusesShut, tables_in};
 ghost use Rattle.cs_value.specs.Table.{IsName};
-ghost use Rattle.cs_value.specs.State.{rows_at};
-ghost use Rattle.cs_session.specs.declared.fault.SessionFault.TheVariants.{AlreadyAttached as IsThere, NoMemory as OutOfMemory};
-ghost use Rattle.cs_session.specs.FirstImages.{AttachedTable, IsNotes, rewound, recorded_changes};
-ghost use Rattle.cs_session.specs.Attaching.{Attaches, RefusesAttach, IsAttachRefusal, IsNewTable};
-ghost use Rattle.cs_session.specs.Changes.{HasTables, IsCaused, IsChangesRefusal, IsResource, RefusesChanges};
+ghost use Rattle.cs_value.specs.State.{State, rows_at};
+ghost use Rattle.cs_session_notes.specs.declared.fault.SessionFault.TheVariants.{AlreadyAttached as IsThere};
+ghost use Rattle.cs_session_notes.specs.declared.fault.SessionFault.TheVariants.{NoMemory as OutOfMemory, WrongStore as NoSuchStore};
+ghost use Rattle.cs_session_notes.specs.FirstImages.{AttachedTable, IsNotes, rewound, recorded_changes};
+ghost use Rattle.cs_session_notes.specs.Attaching.{Attaches, RefusesAttach, IsAttachRefusal, IsNewTable};
+ghost use Rattle.cs_session_notes.specs.Changes.{HasTables, IsCaused, IsChangesRefusal, IsResource, RefusesChanges};
 ghost use Rattle.cs_session.specs.Recording.{Records, RefusesEdit, IsEditRefusal, RecordsApply, RefusesApply, IsApplyRefusal};
-ghost use Rattle.cs_apply_rows.specs.declared.running.Direction.TheVariants.{Forward as ForwardRun};
+ghost use Rattle.cs_apply_rows.specs.declared.running.Direction.TheVariants.{Forward as ForwardRun, Inverse as InverseRun};
+ghost use Rattle.cs_apply_conflicts.specs.declared.conflict.Noop.TheVariants.{Report as Reported};
 ghost use Rattle.cs_apply.specs.Crash.{AppliesInto};
-ghost use Rattle.cs_apply_rows.specs.Running.{Leads};
+ghost use Rattle.cs_apply_rows.specs.Running.{AlwaysAborts, Leads};
 ghost use Rattle.cs_apply_rows.specs.Writes.{IsFileWrite};
 ghost use Rattle.cs_session.specs.Undoing.{LeadsBackTo, Undoes, UndoesInto, IsUndoRefusal, IsUndoWrite};
 
-use crate::applying::apply_noted;
-use crate::attached::are_unwritten;
-use crate::changes::net_changeset;
-use crate::editing::edit_noted;
-use crate::fault::SessionFault;
-use crate::tables::AttachedTables;
+use crate::applying::apply_batch;
+use crate::editing::edit_batch;
 use crate::undoing::undo_rows;
-use cs_apply::{Choice, Conflict, Noop, Report};
+use cs_apply::{Choice, Conflict, Direction, Noop, Report};
+use cs_session_notes::{AttachedTables, SessionFault, are_unwritten, net_changeset};
 use cs_store::{Edit, Schema, Store, StoreError};
 use cs_value::is_table_name;
-use cs_wire::Changeset;
+use cs_wire::{Changeset, changeset_files_law};
 use sqlite::Alter;
 use std::alloc::Global;
 use std::marker::Model;
@@ -40,14 +38,14 @@ use std::marker::Model;
 /// What was written to the rows of the tables that are attached to it, each since it was attached.
 #[derive(Debug, Drop)]
 pub struct Session {
-    tables: AttachedTables,
+    pub(crate) tables: AttachedTables,
 }
 
 impl Model for Session {
     ghost use Rattle.std.specs.Prelude.{map};
     ghost use Rattle.std.specs.List.{AllByRecursion};
-    ghost use Rattle.cs_session.specs.FirstImages.{Notes, IsNotes};
-    ghost use Rattle.cs_session.specs.Views.{attached_of, HasNonePending};
+    ghost use Rattle.cs_session_notes.specs.FirstImages.{Notes, IsNotes};
+    ghost use Rattle.cs_session_notes.specs.Views.{attached_of, HasNonePending};
 
     ghost Value = { Notes };
 
@@ -154,7 +152,9 @@ impl Session {
         ensures transacts { Transacts (EditsInto (tables_in (state S.Store store.old).now) edit.now)
             (state S.Store store.old) (state S.Store store.new) result }
     {
-        edit_noted(alloc, &mut self.tables, store, edit)
+        let result = edit_batch(alloc, &mut self.tables, store, edit);
+        self.tables.settle(result.is_ok());
+        result
     }
 
     /// Applies the changeset of a file in one transaction, as [`apply`](cs_apply::apply) does, and notes
@@ -174,7 +174,7 @@ impl Session {
     ) -> Result<Report, SessionFault>
         requires { H.IsAlwaysCallable handler.now }
         ensures recorded { HasCleanDisk (state S.Store store.new) → IfOk result (λ report.
-            RecordsApply (FnReturnsAt H.Fn handler.now) noop file.now
+            RecordsApply (FnReturnsAt H.Fn handler.now) noop file.now ForwardRun
             (tables_in (state S.Store store.old).now) self.old report
             (tables_in (state S.Store store.new).now) self.new) }
         ensures clean { HasCleanDisk (state S.Store store.new) → IfOk result (λ report. report.conflicts.items ≡ []
@@ -183,7 +183,8 @@ impl Session {
             (rewound self.new (tables_in (state S.Store store.new).now)
             ≡ rewound self.old (tables_in (state S.Store store.old).now)) }
         ensures refused { HasCleanDisk (state S.Store store.new) → IfErr result (RefusesApply
-            (FnReturnsAt H.Fn handler.now) noop file.now (tables_in (state S.Store store.old).now) self.old) }
+            (FnReturnsAt H.Fn handler.now) noop file.now ForwardRun (tables_in (state S.Store store.old).now)
+            self.old) }
         ensures shut { HasCleanDisk (state S.Store store.new)
             → RefusesShut (state S.Store store.old) IsResource result }
         ensures caused { HasCleanDisk (state S.Store store.new) → IfErr result (IsCaused
@@ -195,7 +196,70 @@ impl Session {
             (state S.Store store.old) (state S.Store store.new) result }
     {
         store.tables_law();
-        apply_noted(alloc, &mut self.tables, store, file, noop, handler)
+        let direction = Direction::Forward;
+        let result = apply_batch(
+            alloc,
+            &mut self.tables,
+            store,
+            file,
+            direction,
+            noop,
+            handler,
+        );
+        self.tables.settle(result.is_ok());
+        result
+    }
+
+    /// Applies the inverse of the changeset of a file in one transaction, as [`revert`](cs_apply::revert) does, and notes
+    /// the keys that were written where their table is attached. It aborts at the first conflict.
+    ///
+    /// # Errors
+    ///
+    /// [`WrongStore`](SessionFault::WrongStore) if the store does not have each table as it was attached, and then those
+    /// of `revert`. A refusal changes nothing. A crash leaves the tables as before, or as reverted: only the latter once
+    /// the call is done, and only the former once it is refused and the store is still open.
+    pub fn revert<S: Alter>(
+        &mut self,
+        alloc: Global,
+        store: &mut Store<S>,
+        file: &[u8],
+    ) -> Result<Report, SessionFault>
+        ensures recorded { HasCleanDisk (state S.Store store.new) → IfOk result (λ report.
+            RecordsApply AlwaysAborts Reported file.now InverseRun (tables_in (state S.Store store.old).now) self.old
+            report (tables_in (state S.Store store.new).now) self.new) }
+        ensures reverts { HasCleanDisk (state S.Store store.new) → (before : State)
+            → Leads file.now before (tables_in (state S.Store store.old).now)
+            → MatchResult result (λ report. (report.conflicts.items ≡ [])
+            × (tables_in (state S.Store store.new).now ≡ before)) (λ e. (e ≡ NoSuchStore) ⊎ IsResource e) }
+        ensures rewound { HasCleanDisk (state S.Store store.new) → OnOk result
+            (rewound self.new (tables_in (state S.Store store.new).now)
+            ≡ rewound self.old (tables_in (state S.Store store.old).now)) }
+        ensures refused { HasCleanDisk (state S.Store store.new) → IfErr result (RefusesApply AlwaysAborts Reported
+            file.now InverseRun (tables_in (state S.Store store.old).now) self.old) }
+        ensures shut { HasCleanDisk (state S.Store store.new)
+            → RefusesShut (state S.Store store.old) IsResource result }
+        ensures caused { HasCleanDisk (state S.Store store.new) → IfErr result (IsCaused
+            (StoreFails (Writes (IsFileWrite InverseRun file.now)) (state S.Store store.old)
+            (state S.Store store.new))) }
+        ensures named { IfErr result IsApplyRefusal }
+        ensures same { OnErr result (self.new ≡ self.old) }
+        ensures transacts { Transacts (AppliesInto AlwaysAborts Reported file.now InverseRun
+            (tables_in (state S.Store store.old).now)) (state S.Store store.old) (state S.Store store.new) result }
+    {
+        changeset_files_law();
+        let direction = Direction::Inverse;
+        let abort = |_: &Conflict| Choice::Abort;
+        let result = apply_batch(
+            alloc,
+            &mut self.tables,
+            store,
+            file,
+            direction,
+            Noop::Report,
+            &abort,
+        );
+        self.tables.settle(result.is_ok());
+        result
     }
 
     /// The net changeset: for each key that was written the change from the row that stood there first to

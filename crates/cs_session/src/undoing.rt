@@ -1,15 +1,13 @@
 //! The rows from before, given back.
 ghost use Rattle.std.specs.Prelude.{◌≡◌, map, IfOk, IfErr, is_ok};
 ghost use Rattle.cs_value.specs.State.{IsState};
-ghost use Rattle.cs_session.specs.FirstImages.{IsNotes};
-ghost use Rattle.cs_session.specs.Changes.{RefusesChanges, IsCaused};
+ghost use Rattle.cs_session_notes.specs.FirstImages.{IsNotes};
+ghost use Rattle.cs_session_notes.specs.Changes.{RefusesChanges, IsCaused};
 ghost use Rattle.cs_session.specs.Undoing.{Undoes, IsUndoRefusal, IsUndoWrite};
-ghost use Rattle.cs_session.specs.Views.{attached_of};
+ghost use Rattle.cs_session_notes.specs.Views.{attached_of};
 
-use crate::attached::Attached;
-use crate::changes::net_changeset;
-use crate::fault::SessionFault;
 use cs_apply::{Choice, Direction, Report, run_changeset_in};
+use cs_session_notes::{Attached, SessionFault, net_changeset};
 use cs_store::Rows;
 use cs_wire::changeset_files_law;
 use std::alloc::Global;

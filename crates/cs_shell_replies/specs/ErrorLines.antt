@@ -13,9 +13,9 @@ use Rattle.cs_apply_rows.specs.Faults as applies
 use Rattle.cs_rows.specs.declared.fault.StoreError.{StoreError}
 use Rattle.cs_rows.specs.declared.fault.StoreError.TheVariants as store
 use Rattle.cs_rows.specs.Faults as stores
-use Rattle.cs_session.specs.declared.fault.SessionFault.{SessionFault}
-use Rattle.cs_session.specs.declared.fault.SessionFault.TheVariants as session
-use Rattle.cs_session.specs.Faults as sessions
+use Rattle.cs_session_notes.specs.declared.fault.SessionFault.{SessionFault}
+use Rattle.cs_session_notes.specs.declared.fault.SessionFault.TheVariants as session
+use Rattle.cs_session_notes.specs.Faults as sessions
 use Rattle.cs_shell_columns.specs.declared.fault.UnknownColumn.{UnknownColumn as NoColumn}
 use Rattle.cs_files.specs.declared.fault.PrintError.{PrintError}
 use Rattle.cs_files.specs.declared.fault.PrintError.TheVariants as print

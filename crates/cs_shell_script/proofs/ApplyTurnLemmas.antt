@@ -26,15 +26,16 @@ use Rattle.cs_apply_rows.specs.Running as applies
 use Rattle.cs_apply_rows.specs.Running.{Handler, AlwaysAborts, AppliesCounted, Refuses, Summarizes}
 use Rattle.cs_apply.proofs.RevertLemmas.{applies_weaker, counts_weaker, refuses_weaker}
 use Rattle.cs_files.specs.Files.{Inverts}
-use Rattle.cs_session.specs.declared.fault.SessionFault.{SessionFault}
-use Rattle.cs_session.specs.declared.fault.SessionFault.TheVariants as session
-use Rattle.cs_session.specs.Changes as sessions
-use Rattle.cs_session.specs.FirstImages.{Notes, rewound}
+use Rattle.cs_session_notes.specs.declared.fault.SessionFault.{SessionFault}
+use Rattle.cs_session_notes.specs.declared.fault.SessionFault.TheVariants as session
+use Rattle.cs_session_notes.specs.Changes as sessions
+use Rattle.cs_session_notes.specs.FirstImages.{Notes, rewound}
 use Rattle.cs_session.specs.Recording.{RecordsApply, RefusesApply}
+use Rattle.cs_session.proofs.RecordLemmas.{records_weaker, refuses_recorded_weaker}
 use Rattle.cs_shell_replies.specs.ErrorLines.{of_apply, of_session, of_read}
 use Rattle.cs_shell_replies.specs.Replies.{Reply, Reported, Refused}
 use Rattle.cs_shell_replies.specs.Report.{told_of}
-use Rattle.cs_shell_script.specs.LineAnswers.{ApplyGives, RevertGives, not_applied, reverted, recorded, unread}
+use Rattle.cs_shell_script.specs.LineAnswers.{ApplyGives, not_applied}
 use Rattle.cs_shell_script.specs.ShellState.{SlotMap, ShellState}
 use Rattle.cs_shell_script.specs.Works.{Gave, Works, seen, seen_table}
 use Rattle.cs_shell_script.proofs.TurnLemmas.{turns_done, turns_weaker, or_weaker, works_refused, works_still, no_memory, unable_as, resource_of_apply, resource_of_session}
@@ -53,39 +54,24 @@ works_as Gives Asks old new before after reply weaker works =
 -- ---- applies, by a handler that may choose no more than another
 
 module _ (P Q : Handler) (weaker : (k : Conflict) (c : Choice) → P k c → Q k c) where
-  records_weaker : (noop : Noop) (file : List ℕ) (old new : State) (notes after : Notes) (report : Report) → RecordsApply P noop file old notes report new after
-      → RecordsApply Q noop file old notes report new after
-  records_weaker noop file old new notes after report done = record {
-    attached = done.attached;
-    applied = applies_weaker P Q weaker noop file Forward old report new done.applied;
-    noted = done.noted;
-  }
-
-  refuses_recorded_weaker : (noop : Noop) (file : List ℕ) (old : State) (notes : Notes) (e : SessionFault) → RefusesApply P noop file old notes e → RefusesApply Q noop file old notes e
-  refuses_recorded_weaker noop file old notes session.WrongStore why = why
-  refuses_recorded_weaker noop file old notes (session.Apply e) why = (why.0, refuses_weaker P Q weaker noop file Forward old e why.1)
-  refuses_recorded_weaker noop file old notes (session.Store e) why = why
-  refuses_recorded_weaker noop file old notes session.NoMemory why = why
-  refuses_recorded_weaker noop file old notes session.AlreadyAttached why = why
-
-  -- a file is applied, and noted
-  pub works_recorded : (noop : Noop) (file : List ℕ) (old new : sqlite.State) (notes after : Notes) (report : Report) (summary : Summary) → Summarizes summary report → Survives old new (MayLeave (AppliesInto P noop file Forward (tables_in old.now)))
-      → (HasCleanDisk new → IsAtRest new) → (HasCleanDisk new → old.is_open ≡ false → ⊥) → (HasCleanDisk old → IsTrue old.is_open → IsDatabase old.now) → (HasCleanDisk new → KeepsOthers old.now new.now) → (HasCleanDisk new → RecordsApply P noop file (tables_in old.now) notes report (tables_in new.now) after)
+  -- a file, or its inverse, is applied, and noted
+  pub works_recorded : (noop : Noop) (file : List ℕ) (direction : Direction) (old new : sqlite.State) (notes after : Notes) (report : Report) (summary : Summary) → Summarizes summary report → Survives old new (MayLeave (AppliesInto P noop file direction (tables_in old.now)))
+      → (HasCleanDisk new → IsAtRest new) → (HasCleanDisk new → old.is_open ≡ false → ⊥) → (HasCleanDisk old → IsTrue old.is_open → IsDatabase old.now) → (HasCleanDisk new → KeepsOthers old.now new.now) → (HasCleanDisk new → RecordsApply P noop file direction (tables_in old.now) notes report (tables_in new.now) after)
       → (HasCleanDisk new → rewound after (tables_in new.now) ≡ rewound notes (tables_in old.now))
-      → Works old new (Some notes) (Some after) (λ s. ApplyGives s Q noop file Forward) (Reported (told_of summary))
-  works_recorded noop file old new notes after report summary sums survives rests shut sound others done same =
-      turns_done (Gave (Some notes) (Some after) (λ s. ApplyGives s Q noop file Forward) (Reported (told_of summary))) old new survives rests shut sound others (λ clean rest.
-      session_applies Q noop file (tables_in old.now) (tables_in new.now) notes after report summary sums (records_weaker noop file (tables_in old.now) (tables_in new.now) notes after report (done clean)) (same clean))
+      → Works old new (Some notes) (Some after) (λ s. ApplyGives s Q noop file direction) (Reported (told_of summary))
+  works_recorded noop file direction old new notes after report summary sums survives rests shut sound others done same =
+      turns_done (Gave (Some notes) (Some after) (λ s. ApplyGives s Q noop file direction) (Reported (told_of summary))) old new survives rests shut sound others (λ clean rest.
+      session_applies Q noop file direction (tables_in old.now) (tables_in new.now) notes after report summary sums (records_weaker P Q weaker noop file direction (tables_in old.now) (tables_in new.now) notes after report (done clean)) (same clean))
 
   -- it is refused
-  pub works_unrecorded : (noop : Noop) (file : List ℕ) (old new : sqlite.State) (notes after : Notes) (e : SessionFault) → Survives old new (MayLeave (AppliesInto P noop file Forward (tables_in old.now)))
-      → (HasCleanDisk new → KeepsContent old new) → (HasCleanDisk new → old.is_open ≡ false → sessions.IsResource e) → (HasCleanDisk new → RefusesApply P noop file (tables_in old.now) notes e) → after ≡ notes
-      → Works old new (Some notes) (Some after) (λ s. ApplyGives s Q noop file Forward) (Refused (of_session e))
-  works_unrecorded noop file old new notes after e survives kept shut why same =
-      subst (λ (ns : Notes). Works old new (Some notes) (Some ns) (λ s. ApplyGives s Q noop file Forward) (Refused (of_session e))) (sym same)
-      (works_refused (λ s. ApplyGives s Q noop file Forward) (Some notes) (Refused (of_session e)) old new survives kept
-      (λ clean is state. unable_as (λ s. ApplyGives s Q noop file Forward) state (of_session e) (resource_of_session e (shut clean is))) (λ clean here.
-      session_refuses_apply Q noop file (tables_in old.now) notes e (refuses_recorded_weaker noop file (tables_in old.now) notes e (why clean)) here))
+  pub works_unrecorded : (noop : Noop) (file : List ℕ) (direction : Direction) (old new : sqlite.State) (notes after : Notes) (e : SessionFault) → Survives old new (MayLeave (AppliesInto P noop file direction (tables_in old.now)))
+      → (HasCleanDisk new → KeepsContent old new) → (HasCleanDisk new → old.is_open ≡ false → sessions.IsResource e) → (HasCleanDisk new → RefusesApply P noop file direction (tables_in old.now) notes e) → after ≡ notes
+      → Works old new (Some notes) (Some after) (λ s. ApplyGives s Q noop file direction) (Refused (of_session e))
+  works_unrecorded noop file direction old new notes after e survives kept shut why same =
+      subst (λ (ns : Notes). Works old new (Some notes) (Some ns) (λ s. ApplyGives s Q noop file direction) (Refused (of_session e))) (sym same)
+      (works_refused (λ s. ApplyGives s Q noop file direction) (Some notes) (Refused (of_session e)) old new survives kept
+      (λ clean is state. unable_as (λ s. ApplyGives s Q noop file direction) state (of_session e) (resource_of_session e (shut clean is))) (λ clean here.
+      session_refuses_apply Q noop file direction (tables_in old.now) notes e (refuses_recorded_weaker P Q weaker noop file direction (tables_in old.now) notes e (why clean)) here))
 
   -- where no session is open
   pub works_applied : (noop : Noop) (file : List ℕ) (direction : Direction) (old new : sqlite.State) (summary : Summary) → Survives old new (MayLeave (AppliesInto P noop file direction (tables_in old.now)))
@@ -102,27 +88,3 @@ module _ (P Q : Handler) (weaker : (k : Conflict) (c : Choice) → P k c → Q k
       works_refused (λ s. ApplyGives s Q noop file direction) None (Refused (of_apply e)) old new survives kept
       (λ clean is state. unable_as (λ s. ApplyGives s Q noop file direction) state (of_apply e) (resource_of_apply e (shut clean is))) (λ clean here slots.
       inl (not_applied e (refuses_weaker P Q weaker noop file direction (tables_in old.now) e (why clean))))
-
--- ---- reverts
-
--- where no session is open the file is applied backwards
-pub works_reverted : (file : List ℕ) (old new : sqlite.State) (reply : Reply) → Works old new None None (λ s. ApplyGives s AlwaysAborts noop.Report file Inverse) reply
-    → Works old new None None (λ s. RevertGives s file s.session) reply
-works_reverted file old new reply =
-    works_as (λ s. ApplyGives s AlwaysAborts noop.Report file Inverse) (λ s. RevertGives s file s.session) old new None None reply (λ t slots s gives. reverted reply s gives)
-
--- else its inverse is applied
-pub works_inverse : (file inverse : List ℕ) (old new : sqlite.State) (notes after : Notes) (reply : Reply) → Inverts file inverse
-    → Works old new (Some notes) (Some after) (λ s. ApplyGives s AlwaysAborts noop.Report inverse Forward) reply
-    → Works old new (Some notes) (Some after) (λ s. RevertGives s file s.session) reply
-works_inverse file inverse old new notes after reply inverts =
-    works_as (λ s. ApplyGives s AlwaysAborts noop.Report inverse Forward) (λ s. RevertGives s file s.session) old new (Some notes) (Some after) reply
-    (λ t slots s gives. recorded (map (seen_table t) notes) inverse reply s inverts gives)
-
--- unless the file is not read
-pub works_unread : (file : List ℕ) (store : sqlite.State) (notes : Notes) (e : OrNoMemory ReadFault) → RefusesTool (λ f. ReadFails file f.kind f.place) e
-    → Works store store (Some notes) (Some notes) (λ s. RevertGives s file s.session) (Refused (of_read e))
-works_unread file store notes (tool.Fault f) why =
-    works_still (λ s. RevertGives s file s.session) (Some notes) (Refused (of_read (tool.Fault f))) store (λ t slots. inl (unread (map (seen_table t) notes) f why))
-works_unread file store notes tool.NoMemory why =
-    works_still (λ s. RevertGives s file s.session) (Some notes) (Refused (of_read tool.NoMemory)) store (λ t slots. no_memory (λ s. RevertGives s file s.session) (seen t slots (Some notes)))

@@ -10,7 +10,7 @@ use Rattle.cs_store.specs.Editing.{inserted}
 use Rattle.cs_apply_conflicts.specs.declared.conflict.Choice.{Choice}
 use Rattle.cs_apply_conflicts.specs.declared.conflict.Noop.{Noop}
 use Rattle.cs_apply_rows.specs.declared.running.Direction.TheVariants.{Forward}
-use Rattle.cs_session.specs.FirstImages.{Notes}
+use Rattle.cs_session_notes.specs.FirstImages.{Notes}
 use Rattle.cs_shell_grammar.specs.declared.fault.SyntaxFault.{SyntaxFault}
 use Rattle.cs_shell_grammar.specs.Commands.{CommandData, AssignmentData, Create, Insert, Update, Delete, Select, Apply, Revert, SessionOpen, SessionAttach, SessionChangeset, SessionIsEmpty, SessionUndo, SessionClose}
 use Rattle.cs_shell_grammar.specs.Lines.{RefusesLine, Spelled}
@@ -79,10 +79,10 @@ module _ (old new : State) (slots : SlotMap) (before after : Option Notes) (repl
       works_on (λ s. CommandGives s (Apply slot on_data on_notfound on_conflict on_constraint noop)) (λ s. ApplyGives s (ByKind on_data on_notfound on_conflict on_constraint) noop file Forward) old new slots before after reply works
       (λ t next gives. applies slot on_data on_notfound on_conflict on_constraint noop reply next (inr (file, is, gives)))
 
-  pub on_revert : (slot file : List ℕ) → get slots slot ≡ Some file → Works old new before after (λ s. RevertGives s file s.session) reply
+  pub on_revert : (slot file : List ℕ) → get slots slot ≡ Some file → Works old new before after (λ s. RevertGives s file) reply
       → WorksOn old new slots slots before after (λ s. CommandGives s (Revert slot)) reply
   on_revert slot file is works =
-      works_on (λ s. CommandGives s (Revert slot)) (λ s. RevertGives s file s.session) old new slots before after reply works (λ t next gives. reverts slot reply next (inr (file, is, gives)))
+      works_on (λ s. CommandGives s (Revert slot)) (λ s. RevertGives s file) old new slots before after reply works (λ t next gives. reverts slot reply next (inr (file, is, gives)))
 
   -- ---- the session
 

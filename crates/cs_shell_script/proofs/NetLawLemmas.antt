@@ -32,7 +32,7 @@ use Rattle.cs_shell_columns.specs.Rows.{with_assigned}
 use Rattle.cs_shell_replies.specs.Replies.{Reply}
 use Rattle.cs_shell_script.specs.ShellState.{SessionTable, SessionTables, ShellState, touch, written_to, put_back}
 use Rattle.cs_shell_script.specs.LineAnswers.{CreateGives, unknown_key, declared, not_declared, declared_schema, EditGives, UpdateGives, not_updated, no_row, updates_row, DeleteGives, not_deleted, deletes_row}
-use Rattle.cs_shell_script.specs.LineAnswers.{ApplyGives, applied, not_applied, ByKind, RevertGives, reverted, recorded, unread, WithSlot, with_session, WithSession, OpenGives, AttachGives, attached, already, no_table, ChangesetGives, IsEmptyGives, UndoGives, CloseGives}
+use Rattle.cs_shell_script.specs.LineAnswers.{ApplyGives, applied, not_applied, ByKind, RevertGives, WithSlot, with_session, WithSession, OpenGives, AttachGives, attached, already, no_table, ChangesetGives, IsEmptyGives, UndoGives, CloseGives}
 use Rattle.cs_shell_script.specs.LineAnswers.{CommandGives, created, inserts, updates, deletes, selects, on_slots, applies, reverts, opens, attaches, changes, tells_empty, undoes, closes, unable, LineGives, not_text, nothing, malformed, answered, unanswered}
 use Rattle.cs_shell_script.specs.Net.{IsTracked, AreTracked, HasNet, LinesLead, NetOfTouched}
 use Rattle.cs_shell_script.proofs.NetLemmas.{OnlyWrites, touched_tracked, same_tracked, back_tracked, new_tracked}
@@ -255,11 +255,6 @@ apply_net old chooses noop file direction new reply is (applied summary tables d
     writes_net old tables done.writes (applied_only chooses noop file direction old.tables tables summary done) is
 apply_net old chooses noop file direction new reply is (not_applied fault why) = is
 
-revert_net : (old new : ShellState) (file : List ℕ) (session : Option SessionTables) (reply : Reply) → HasNet old → RevertGives old file session reply new → HasNet new
-revert_net old new file session reply is (reverted answer next gives) = apply_net old AlwaysAborts noop.Report file Inverse next answer is gives
-revert_net old new file session reply is (recorded tables inverse answer next inverts gives) = apply_net old AlwaysAborts noop.Report inverse Forward next answer is gives
-revert_net old new file session reply is (unread tables fault why) = is
-
 -- what is done with the bytes of a slot
 slot_net : (old new : ShellState) (slot : List ℕ) (Gives : List ℕ → Reply → ShellState → Type 0) (reply : Reply) → ((file : List ℕ) → Gives file reply new → HasNet new)
     → HasNet old → WithSlot old slot Gives reply new → HasNet new
@@ -301,7 +296,7 @@ command_net old new command reply is (applies slot on_data on_notfound on_confli
     slot_net old next slot (λ file. ApplyGives old (ByKind on_data on_notfound on_conflict on_constraint) noop file Forward) answer
     (λ file given. apply_net old (ByKind on_data on_notfound on_conflict on_constraint) noop file Forward next answer is given) is gives
 command_net old new command reply is (reverts slot answer next gives) =
-    slot_net old next slot (λ file. RevertGives old file old.session) answer (λ file given. revert_net old next file old.session answer is given) is gives
+    slot_net old next slot (RevertGives old) answer (λ file given. apply_net old AlwaysAborts noop.Report file Inverse next answer is given) is gives
 command_net old new command reply is (opens answer next gives) = open_net old next answer is gives
 command_net old new command reply is (attaches table answer next gives) =
     session_net old next (AttachGives old table) answer (λ session tracked given. attach_net old next table session answer is tracked given) is gives

@@ -18,8 +18,8 @@ use Rattle.cs_apply_conflicts.specs.Judging.{judgement, judged}
 use Rattle.cs_group.specs.Net.{net_entry}
 use Rattle.cs_apply_conflicts.specs.declared.conflict.Noop.TheVariants as noop
 use Rattle.cs_apply_conflicts.specs.Applying.{PlacedEntry, placed, placed_in, placed_by, placed_kind, Choices, met_at, met_under, written_for, written, compatible_groups, applicable}
-use Rattle.cs_session.specs.FirstImages.{FirstImage, AttachedTable, Notes, IsAttachedTable, IsNotes, HasAttached, first_at, rewound_rows, rewound, rewound_state, noted, noted_in, writes_of, recorded, entry_since, header_of, group_of, recorded_changes}
-use Rattle.cs_session.proofs.FirstLemmas.{put_all_at}
+use Rattle.cs_session_notes.specs.FirstImages.{FirstImage, AttachedTable, Notes, IsAttachedTable, IsNotes, HasAttached, first_at, rewound_rows, rewound, rewound_state, noted, noted_in, writes_of, recorded, entry_since, header_of, group_of, recorded_changes}
+use Rattle.cs_session_notes.proofs.FirstLemmas.{put_all_at}
 use Rattle.cs_session.proofs.ChangesLemmas.{all_compatible}
 use Rattle.cs_shell_script.specs.ShellState.{with_keys, touch, net_entries, net_of, net_count, put_back}
 use Rattle.cs_shell_script.specs.Works.{seen_table}

@@ -25,11 +25,11 @@ use Rattle.cs_apply_rows.specs.declared.running.Direction.{Direction}
 use Rattle.cs_apply_rows.specs.declared.running.Direction.TheVariants.{Forward}
 use Rattle.cs_apply_rows.specs.Report.{met_of}
 use Rattle.cs_apply_rows.specs.Running.{Handler, AppliesCounted, Summarizes}
-use Rattle.cs_session.specs.declared.fault.SessionFault.{SessionFault}
-use Rattle.cs_session.specs.declared.fault.SessionFault.TheVariants as session
-use Rattle.cs_session.specs.FirstImages.{AttachedTable, Notes, IsNotes, HasAttached, rewound, recorded, recorded_changes}
-use Rattle.cs_session.specs.Attaching.{Attaches, RefusesAttach}
-use Rattle.cs_session.specs.Changes.{HasTables, LacksTable, LacksNamed}
+use Rattle.cs_session_notes.specs.declared.fault.SessionFault.{SessionFault}
+use Rattle.cs_session_notes.specs.declared.fault.SessionFault.TheVariants as session
+use Rattle.cs_session_notes.specs.FirstImages.{AttachedTable, Notes, IsNotes, HasAttached, rewound, recorded, recorded_changes}
+use Rattle.cs_session_notes.specs.Attaching.{Attaches, RefusesAttach}
+use Rattle.cs_session_notes.specs.Changes.{HasTables, LacksTable, LacksNamed}
 use Rattle.cs_session.specs.Recording.{Records, RefusesEdit, RecordsApply, RefusesApply, table_of}
 use Rattle.cs_session.specs.Undoing.{Undoes}
 use Rattle.cs_session.specs.Runs.{Moment, IsMoment, Step, rows_attached}
@@ -123,12 +123,12 @@ session_refuses_edit old edit notes (session.Apply fault) why here slots = absur
 
 -- ---- applies
 
-pub session_applies : (chooses : Handler) (noop : Noop) (file : List ℕ) (old new : State) (notes after : Notes) (report : Report) (summary : Summary) → Summarizes summary report → RecordsApply chooses noop file old notes report new after
+pub session_applies : (chooses : Handler) (noop : Noop) (file : List ℕ) (direction : Direction) (old new : State) (notes after : Notes) (report : Report) (summary : Summary) → Summarizes summary report → RecordsApply chooses noop file direction old notes report new after
     → rewound after new ≡ rewound notes old → IsHere old (Some notes) → IsHere new (Some after)
-    × ((slots : SlotMap) → OrUnable (λ s. ApplyGives s chooses noop file Forward) (seen old slots (Some notes)) (Reported (told_of summary)) (seen new slots (Some after)))
-session_applies chooses noop file old new notes after report summary sums done same here = (
-  (step_keeps (at old notes) (at new after) here (applied_step chooses noop file (at old notes) (at new after) report done)).0,
-  λ slots. inl (subst (λ (s : ShellState). ApplyGives (seen old slots (Some notes)) chooses noop file Forward (Reported (told_of summary)) s)
+    × ((slots : SlotMap) → OrUnable (λ s. ApplyGives s chooses noop file direction) (seen old slots (Some notes)) (Reported (told_of summary)) (seen new slots (Some after)))
+session_applies chooses noop file direction old new notes after report summary sums done same here = (
+  (step_keeps (at old notes) (at new after) here (applied_step chooses noop file direction (at old notes) (at new after) report done)).0,
+  λ slots. inl (subst (λ (s : ShellState). ApplyGives (seen old slots (Some notes)) chooses noop file direction (Reported (told_of summary)) s)
       (sym (written_seen old new slots (map written_of report.written.items) notes after done.noted same))
       (applied summary new (record {
         writes = map written_of report.written.items;
@@ -142,14 +142,14 @@ pub store_applies : (chooses : Handler) (noop : Noop) (file : List ℕ) (directi
     × ((slots : SlotMap) → OrUnable (λ s. ApplyGives s chooses noop file direction) (seen old slots None) (Reported (told_of summary)) (seen new slots None))
 store_applies chooses noop file direction old new summary done here = (tt, λ slots. inl (applied summary new done))
 
-pub session_refuses_apply : (chooses : Handler) (noop : Noop) (file : List ℕ) (old : State) (notes : Notes) (fault : SessionFault) → RefusesApply chooses noop file old notes fault
+pub session_refuses_apply : (chooses : Handler) (noop : Noop) (file : List ℕ) (direction : Direction) (old : State) (notes : Notes) (fault : SessionFault) → RefusesApply chooses noop file direction old notes fault
     → IsHere old (Some notes) → (slots : SlotMap)
-    → OrUnable (λ s. ApplyGives s chooses noop file Forward) (seen old slots (Some notes)) (Refused (of_session fault)) (seen old slots (Some notes))
-session_refuses_apply chooses noop file old notes session.WrongStore why here slots = absurd (lacks_no_table old notes here.has why)
-session_refuses_apply chooses noop file old notes (session.Apply fault) why here slots = inl (not_applied fault why.1)
-session_refuses_apply chooses noop file old notes (session.Store e) why here slots = or_store (λ s. ApplyGives s chooses noop file Forward) (seen old slots (Some notes)) e (inr (inr why))
-session_refuses_apply chooses noop file old notes session.NoMemory why here slots = no_memory (λ s. ApplyGives s chooses noop file Forward) (seen old slots (Some notes))
-session_refuses_apply chooses noop file old notes session.AlreadyAttached why here slots = absurd why
+    → OrUnable (λ s. ApplyGives s chooses noop file direction) (seen old slots (Some notes)) (Refused (of_session fault)) (seen old slots (Some notes))
+session_refuses_apply chooses noop file direction old notes session.WrongStore why here slots = absurd (lacks_no_table old notes here.has why)
+session_refuses_apply chooses noop file direction old notes (session.Apply fault) why here slots = inl (not_applied fault why.1)
+session_refuses_apply chooses noop file direction old notes (session.Store e) why here slots = or_store (λ s. ApplyGives s chooses noop file direction) (seen old slots (Some notes)) e (inr (inr why))
+session_refuses_apply chooses noop file direction old notes session.NoMemory why here slots = no_memory (λ s. ApplyGives s chooses noop file direction) (seen old slots (Some notes))
+session_refuses_apply chooses noop file direction old notes session.AlreadyAttached why here slots = absurd why
 
 -- ---- attaching
 

@@ -15,11 +15,11 @@ use Rattle.cs_store.specs.Store.{IsAtRest, KeepsStore, tables_in}
 use Rattle.cs_apply_rows.specs.declared.report.Report.{Report}
 use Rattle.cs_apply_rows.specs.declared.report.Summary.{Summary}
 use Rattle.cs_apply_rows.specs.Running.{Summarizes}
-use Rattle.cs_session.specs.declared.fault.SessionFault.{SessionFault}
-use Rattle.cs_session.specs.declared.fault.SessionFault.TheVariants as session
-use Rattle.cs_session.specs.FirstImages.{FirstImage, AttachedTable, Notes, IsNotes, recorded_changes}
-use Rattle.cs_session.specs.Attaching.{Attaches, RefusesAttach}
-use Rattle.cs_session.specs.Changes.{IsResource, RefusesChanges}
+use Rattle.cs_session_notes.specs.declared.fault.SessionFault.{SessionFault}
+use Rattle.cs_session_notes.specs.declared.fault.SessionFault.TheVariants as session
+use Rattle.cs_session_notes.specs.FirstImages.{FirstImage, AttachedTable, Notes, IsNotes, recorded_changes}
+use Rattle.cs_session_notes.specs.Attaching.{Attaches, RefusesAttach}
+use Rattle.cs_session_notes.specs.Changes.{IsResource, RefusesChanges}
 use Rattle.cs_store.specs.Crash.{MayLeave}
 use Rattle.cs_session.specs.Undoing.{Undoes, UndoesInto}
 use Rattle.cs_shell_replies.specs.declared.refusal.Refusal.TheVariants as refusal

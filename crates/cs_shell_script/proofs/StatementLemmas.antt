@@ -16,7 +16,7 @@ use Rattle.cs_rows.specs.declared.fault.StoreError.TheVariants.{NoTable, NoRow}
 use Rattle.cs_store.specs.Faults as faults
 use Rattle.cs_store.specs.Editing.{either, Declares, schema_of, updated, deleted}
 use Rattle.cs_store.specs.Store.{KeepsStore, tables_in}
-use Rattle.cs_session.specs.FirstImages.{Notes}
+use Rattle.cs_session_notes.specs.FirstImages.{Notes}
 use Rattle.cs_shell_grammar.specs.Commands.{AssignmentData}
 use Rattle.cs_shell_columns.specs.declared.fault.UnknownColumn.{UnknownColumn as NoColumn}
 use Rattle.cs_shell_columns.specs.Columns.{AreColumns, NamesKey, marks_of, columns_of}

@@ -15,10 +15,10 @@ use Rattle.cs_store.specs.Store.{Begins, IsAtRest, KeepsStore, tables_in}
 use Rattle.cs_apply_rows.specs.declared.fault.ApplyFault.{ApplyFault}
 use Rattle.cs_apply_rows.specs.declared.fault.ApplyFault.TheVariants as apply
 use Rattle.cs_apply_rows.specs.Running as applies
-use Rattle.cs_session.specs.declared.fault.SessionFault.{SessionFault}
-use Rattle.cs_session.specs.declared.fault.SessionFault.TheVariants as session
-use Rattle.cs_session.specs.Changes as sessions
-use Rattle.cs_session.specs.FirstImages.{Notes}
+use Rattle.cs_session_notes.specs.declared.fault.SessionFault.{SessionFault}
+use Rattle.cs_session_notes.specs.declared.fault.SessionFault.TheVariants as session
+use Rattle.cs_session_notes.specs.Changes as sessions
+use Rattle.cs_session_notes.specs.FirstImages.{Notes}
 use Rattle.cs_shell_replies.specs.declared.refusal.Refusal.{Refusal}
 use Rattle.cs_shell_replies.specs.declared.refusal.Refusal.TheVariants.{NoMemory, Store}
 use Rattle.cs_shell_replies.specs.ErrorLines.{of_store, of_apply, of_session}

@@ -25,7 +25,7 @@ use Rattle.cs_apply_rows.specs.declared.running.Direction.TheVariants.{Forward, 
 use Rattle.cs_apply_rows.specs.declared.fault.ApplyFault.{ApplyFault}
 use Rattle.cs_apply_rows.specs.Report.{chosen}
 use Rattle.cs_apply_rows.specs.Running.{Handler, AlwaysAborts, AppliesCounted, IsNamed, Refuses}
-use Rattle.cs_session.specs.declared.fault.SessionFault.TheVariants.{AlreadyAttached}
+use Rattle.cs_session_notes.specs.declared.fault.SessionFault.TheVariants.{AlreadyAttached}
 use Rattle.cs_files.specs.declared.fault.FileFault.{FileFault}
 use Rattle.cs_files.specs.Files.{Inverts, Joins, JoinFails}
 use Rattle.cs_shell_grammar.specs.declared.fault.SyntaxFault.{SyntaxFault}
@@ -184,15 +184,9 @@ ByKind on_data on_notfound on_conflict on_constraint conflict choice =
       on_constraint = on_constraint;
     }) conflict.kind
 
--- while a session is open, the inverse is written, and that is applied
-pub data RevertGives (old : ShellState) (file : List ℕ) : Option SessionTables → Reply → ShellState → Type 0 where
-  reverted : (reply : Reply) (new : ShellState) → ApplyGives old AlwaysAborts noop.Report file Inverse reply new
-      → RevertGives old file None reply new
-  recorded : (session : SessionTables) (inverse : List ℕ) (reply : Reply) (new : ShellState) → Inverts file inverse
-      → ApplyGives old AlwaysAborts noop.Report inverse Forward reply new
-      → RevertGives old file (Some session) reply new
-  unread : (session : SessionTables) (fault : ReadFault) → ReadFails file fault.kind fault.place
-      → RevertGives old file (Some session) (Refused (Read fault)) old
+-- the inverse of a file is applied, and the first conflict ends it; while a session is open, it is noted
+abbrev pub RevertGives : ShellState → List ℕ → Reply → ShellState → Type 0
+RevertGives old file = ApplyGives old AlwaysAborts noop.Report file Inverse
 
 -- what is done with the bytes of a slot, which is told first where it is empty
 abbrev pub WithSlot : ShellState → List ℕ → (List ℕ → Reply → ShellState → Type 0) → Reply → ShellState → Type 0
@@ -285,7 +279,7 @@ pub data CommandGives (old : ShellState) : CommandData → Reply → ShellState 
       Forward) reply new
       → CommandGives old (Apply slot on_data on_notfound on_conflict on_constraint noop) reply new
   reverts : (slot : List ℕ) (reply : Reply) (new : ShellState)
-      → WithSlot old slot (λ file. RevertGives old file old.session) reply new
+      → WithSlot old slot (λ file. RevertGives old file) reply new
       → CommandGives old (Revert slot) reply new
   opens : (reply : Reply) (new : ShellState) → OpenGives old reply new → CommandGives old SessionOpen reply new
   attaches : (table : List ℕ) (reply : Reply) (new : ShellState) → WithSession old (AttachGives old table) reply new

@@ -10,7 +10,7 @@ use Rattle.cs_value.specs.State.{SchemaData, RowMap, State, WrittenData, row_at,
 use Rattle.cs_wire_entries.specs.declared.entry.Entry.{Entry}
 use Rattle.cs_wire.specs.Changeset.{GroupData}
 use Rattle.cs_group.specs.Net.{net_entry}
-use Rattle.cs_session.specs.FirstImages.{group_of, writes_of}
+use Rattle.cs_session_notes.specs.FirstImages.{group_of, writes_of}
 
 -- the bytes in each slot that was filled
 abbrev pub SlotMap : Type 0

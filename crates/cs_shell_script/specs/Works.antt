@@ -3,7 +3,7 @@ use Rattle.std.specs.Prelude.{◌≡◌, ◌⊎◌, ℕ, List, map, Option, None
 use Rattle.std.specs.Prelude.{Result, Ok, Err}
 use Rattle.sqlite.specs.State as sqlite
 use Rattle.cs_value.specs.State.{State}
-use Rattle.cs_session.specs.FirstImages.{AttachedTable, Notes, rewound_rows}
+use Rattle.cs_session_notes.specs.FirstImages.{AttachedTable, Notes, rewound_rows}
 use Rattle.cs_session.specs.Runs.{IsMoment}
 use Rattle.cs_shell_grammar.specs.Commands.{AssignmentData}
 use Rattle.cs_shell_replies.specs.declared.refusal.Refusal.{Refusal}

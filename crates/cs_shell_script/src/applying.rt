@@ -6,8 +6,7 @@ ghost use Rattle.cs_shell_replies.specs.Replies.{answer_of};
 ghost use Rattle.cs_shell_script.specs.LineAnswers.{AnswersApply, ApplyGives, ByKind, RevertGives};
 ghost use Rattle.cs_shell_script.specs.Works.{Works};
 
-use cs_apply::{Choice, Conflict, Noop, Policy, apply_counted, revert};
-use cs_files::invert_bytes;
+use cs_apply::{Conflict, Noop, Policy, apply_counted, revert};
 use cs_session::Session;
 use cs_shell_replies::{Refusal, Reply};
 use cs_store::Store;
@@ -79,11 +78,10 @@ fn revert_noted<S: Alter>(
     file: &[u8],
 ) -> Result<Reply, Refusal>
     ensures { Works (state S.Store store.old) (state S.Store store.new) (Some session.old) (Some session.new)
-        (λ old. RevertGives old file.now old.session) (answer_of result) }
+        (λ old. RevertGives old file.now) (answer_of result) }
 {
     store.database_law();
-    let inverse = invert_bytes(alloc, file)?;
-    let report = session.apply_recorded(alloc, store, &inverse, Noop::Report, &|_| Choice::Abort)?;
+    let report = session.revert(alloc, store, file)?;
     Ok(Reply::Report(report.into_summary()))
 }
 
@@ -94,14 +92,14 @@ fn revert_unnoted<S: Alter>(
     file: &[u8],
 ) -> Result<Reply, Refusal>
     ensures { Works (state S.Store store.old) (state S.Store store.new) None None
-        (λ old. RevertGives old file.now old.session) (answer_of result) }
+        (λ old. RevertGives old file.now) (answer_of result) }
 {
     store.database_law();
     let report = revert(alloc, store, file)?;
     Ok(Reply::Report(report.into_summary()))
 }
 
-/// Reverts a file. An open session notes it, as an apply of the inverse.
+/// Reverts a file. An open session notes it.
 pub(crate) fn revert_file<S: Alter>(
     alloc: Global,
     store: &mut Store<S>,
@@ -109,7 +107,7 @@ pub(crate) fn revert_file<S: Alter>(
     file: &[u8],
 ) -> Result<Reply, Refusal>
     ensures { Works (state S.Store store.old) (state S.Store store.new) session.old session.new
-        (λ old. RevertGives old file.now old.session) (answer_of result) }
+        (λ old. RevertGives old file.now) (answer_of result) }
 {
     match session {
         Some(session) => revert_noted(alloc, store, session, file),

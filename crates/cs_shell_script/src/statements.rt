@@ -2,7 +2,7 @@
 ghost use Rattle.std.specs.Prelude.{map, Option, None, Some, string_bytes};
 ghost use Rattle.sqlite.specs.Held.{state};
 ghost use Rattle.cs_store.specs.Editing.{edited, inserted};
-ghost use Rattle.cs_session.specs.FirstImages.{Notes};
+ghost use Rattle.cs_session_notes.specs.FirstImages.{Notes};
 ghost use Rattle.cs_shell_grammar.specs.Commands.{assignment_of};
 ghost use Rattle.cs_shell_replies.specs.Replies.{answer_of};
 ghost use Rattle.cs_shell_script.specs.LineAnswers.{CreateGives, EditGives, UpdateGives, DeleteGives, SelectGives};

@@ -12,8 +12,9 @@ use cs_apply::{
     revert_in_transaction,
 };
 use cs_session::{Session, SessionFault, runs_law};
-use cs_store::{Edit, Rows, Store, StoreError, edit_in};
+use cs_store::{Edit, Rows, Store, StoreError, Transaction, edit_in};
 use cs_value::{OwnedValue, Row, Value};
+use cs_wire::write;
 use sqlite::Alter;
 use std::alloc::Global;
 
@@ -135,6 +136,37 @@ fn toggles_a_row(rt: HostRuntime) {
             Err((error, _)) => panic!(rt; "refused: {error}"),
         }
     }
+}
+
+/// Carries out edits in a transaction, and returns the file of what it changed in the attached tables.
+fn record<S: Alter + Drop>(
+    alloc: Global,
+    transaction: &mut Transaction<S>,
+    session: &mut Session,
+    edits: &[Edit],
+) -> Result<Vec<u8>, SessionFault> {
+    for edit in edits {
+        session.edit_in_transaction(alloc, transaction, edit)?;
+    }
+    let changeset = session.changeset_in_transaction(alloc, transaction)?;
+    Ok(write(alloc, &changeset)?)
+}
+
+#[test]
+fn records_a_transaction(rt: HostRuntime) {
+    let (mut store, mut session) = (store_of(&rt, &[false, false]), Session::new(rt.alloc()));
+    let attached = session.attach(rt.alloc(), &mut store, "t");
+    attached.expect(&rt, "a table");
+    let Ok(mut transaction) = store.into_transaction() else {
+        panic!(rt; "refused");
+    };
+    let edits = [edit_of(&rt, Call::Insert("t", &[Value::Int(1), Value::Text("x")]))];
+    let file = record(rt.alloc(), &mut transaction, &mut session, &edits);
+    assert!(rt; file.expect(&rt, "no refusal") == INSERT);
+    let reverted = session.revert_in_transaction(rt.alloc(), &mut transaction, INSERT);
+    assert!(rt; reverted.expect(&rt, "no refusal").written.len() == 1);
+    assert!(rt; record(rt.alloc(), &mut transaction, &mut session, &[]).expect(&rt, "no refusal").is_empty());
+    end(transaction.roll_back());
 }
 
 /// Carries out edits, or undoes all that the session noted where one of them is refused.

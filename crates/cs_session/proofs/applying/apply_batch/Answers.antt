@@ -4,7 +4,6 @@ use Rattle.std.specs.Fn.{FnReturnsAt}
 use Rattle.std.proofs.lemmas.Result.{err_from_is_err_and}
 use Rattle.sqlite.specs.Held.{state}
 use Rattle.sqlite.specs.State.{HasCleanDisk}
-use Rattle.cs_apply_rows.specs.declared.running.Direction.TheVariants.{Forward}
 use Rattle.cs_store.specs.Records.{KeepsContent, KeepsCrash}
 use Rattle.cs_store.specs.Store.{tables_in}
 use Rattle.cs_store.proofs.TransactLemmas.{unbegun_transacts, dropped_transacts, uncommitted_transacts, committed_transacts}
@@ -13,7 +12,7 @@ use Rattle.cs_session.proofs.OutcomeLemmas.{begun_state}
 use Rattle.cs_store.specs.Failing.{BeginFails}
 use Rattle.cs_store.specs.Faults as stores
 use Rattle.cs_store.proofs.FailureLemmas.{begin_fails, commit_fails, work_fails}
-use Rattle.cs_session.proofs.CauseLemmas.{caused_on, rows_caused_on}
+use Rattle.cs_session_notes.proofs.CauseLemmas.{caused_on, rows_caused_on}
 use Rattle.cs_store.specs.Laws.{was_clean}
 use Rattle.cs_session.proofs.applying.apply_batch.Goals as goal
 
@@ -28,7 +27,7 @@ returns-in_err-batch-clause-transacts g c =
     let keeps : KeepsCrash old new = search rules in
     let kept : HasCleanDisk new → KeepsContent old new = search rules in
     let p = err_from_is_err_and c.from_residual.result c.from_residual.ensures.1 in
-    rw p.1 (unbegun_transacts g.S.Store g.met.S.Store.settled g.met.S.Store.stays c.args.store.now c.begin.follows.lender-at-none c.crash_law.ensures _ (AppliesInto (FnReturnsAt g.H.Fn c.args.handler.now) c.args.noop c.args.file.now Forward (tables_in old.now)) keeps kept)
+    rw p.1 (unbegun_transacts g.S.Store g.met.S.Store.settled g.met.S.Store.stays c.args.store.now c.begin.follows.lender-at-none c.crash_law.ensures _ (AppliesInto (FnReturnsAt g.H.Fn c.args.handler.now) c.args.noop c.args.file.now c.args.direction (tables_in old.now)) keeps kept)
 
 pub returns-in_err-report-clause-transacts : goal.returns-in_err-report-clause-transacts
 returns-in_err-report-clause-transacts g c =
@@ -38,7 +37,7 @@ returns-in_err-report-clause-transacts g c =
     let same : c.drop-batch.new.self.0 ≡ c.store-in_err-report-1.given.0 = search rules in
     let p = err_from_is_err_and c.from_residual-in_err-report.result c.from_residual-in_err-report.ensures.1 in
     rw (p.1, ← same) (dropped_transacts g.S.Store g.met.S.Store.settled g.met.S.Store.stays c.args.store.now c.drop-batch.new.self.0 c.crash_law.ensures begun mid c.in_ok-batch.ensures.begun c.in_ok-batch.ensures.survives c.apply_rows.ensures.kept.1
-    _ (AppliesInto (FnReturnsAt g.H.Fn c.args.handler.now) c.args.noop c.args.file.now Forward (tables_in old.now)) c.drop-batch.ensures.survives c.drop-batch.ensures.undone)
+    _ (AppliesInto (FnReturnsAt g.H.Fn c.args.handler.now) c.args.noop c.args.file.now c.args.direction (tables_in old.now)) c.drop-batch.ensures.survives c.drop-batch.ensures.undone)
 
 pub returns-in_err-commit-clause-transacts : goal.returns-in_err-commit-clause-transacts
 returns-in_err-commit-clause-transacts g c =
@@ -47,7 +46,7 @@ returns-in_err-commit-clause-transacts g c =
     let same : c.commit.new.self.0 ≡ c.store-2-1.given.0 = search rules in
     let p = err_from_is_err_and c.from_residual-in_err-commit.result c.from_residual-in_err-commit.ensures.1 in
     rw (p.1, ← same) (uncommitted_transacts g.S.Store g.met.S.Store.settled g.met.S.Store.stays c.args.store.now c.commit.new.self.0 c.crash_law.ensures begun mid c.in_ok-batch.ensures.begun c.in_ok-batch.ensures.survives c.apply_rows.ensures.kept.1
-    (AppliesInto (FnReturnsAt g.H.Fn c.args.handler.now) c.args.noop c.args.file.now Forward) (λ clean. record { met = _; skips = _; writes = _; passed = _; applies = (c.in_ok-report.ensures.recorded clean).applied }) c.commit.ensures.atomic.survives _ c.in_err-commit.ensures.undone)
+    (AppliesInto (FnReturnsAt g.H.Fn c.args.handler.now) c.args.noop c.args.file.now c.args.direction) (λ clean. record { met = _; skips = _; writes = _; passed = _; applies = (c.in_ok-report.ensures.recorded clean).applied }) c.commit.ensures.atomic.survives _ c.in_err-commit.ensures.undone)
 
 pub returns-clause-transacts : goal.returns-clause-transacts
 returns-clause-transacts g c =
@@ -55,7 +54,7 @@ returns-clause-transacts g c =
     let mid = state g.S.Store c.apply_rows.new.rows.store.now in
     let same : c.commit.new.self.0 ≡ c.store-2-1.given.0 = search rules in
     rw (← same) (committed_transacts g.S.Store g.met.S.Store.settled g.met.S.Store.stays c.args.store.now c.commit.new.self.0 c.crash_law.ensures begun mid c.in_ok-batch.ensures.begun c.in_ok-batch.ensures.survives c.apply_rows.ensures.kept.1
-    (AppliesInto (FnReturnsAt g.H.Fn c.args.handler.now) c.args.noop c.args.file.now Forward) (λ clean. record { met = _; skips = _; writes = _; passed = _; applies = (c.in_ok-report.ensures.recorded clean).applied }) c.commit.ensures.atomic.survives _ c.in_ok-commit.ensures.committed c.in_ok-commit.ensures.others c.in_ok-commit.ensures.left)
+    (AppliesInto (FnReturnsAt g.H.Fn c.args.handler.now) c.args.noop c.args.file.now c.args.direction) (λ clean. record { met = _; skips = _; writes = _; passed = _; applies = (c.in_ok-report.ensures.recorded clean).applied }) c.commit.ensures.atomic.survives _ c.in_ok-commit.ensures.committed c.in_ok-commit.ensures.others c.in_ok-commit.ensures.left)
 
 pub returns-in_err-batch-clause-caused : goal.returns-in_err-batch-clause-caused
 returns-in_err-batch-clause-caused g c clean =

@@ -1,4 +1,5 @@
--- `editing::edit_batch`: what `edit_rows` asks for, the clauses `recorded`, `named`, `caused`, `transacts`.
+-- `editing::edit_batch`: what `edit_rows` asks for, the clauses `recorded`, `refused`, `named`, `caused`,
+-- `transacts`.
 use Rattle.std.proofs.Common.{◌≡◌, rules, IfErr, map, refl, subst}
 use Rattle.std.proofs.lemmas.Result.{err_from_is_err_and}
 use Rattle.sqlite.specs.Held.{state}
@@ -13,12 +14,12 @@ use Rattle.cs_session.proofs.OutcomeLemmas.{begun_state}
 use Rattle.cs_store.specs.Failing.{BatchFails, BeginFails, Writes}
 use Rattle.cs_store.specs.Faults as stores
 use Rattle.cs_store.proofs.FailureLemmas.{begin_fails, commit_fails, work_fails}
-use Rattle.cs_session.proofs.CauseLemmas.{caused_on, rows_caused_on}
+use Rattle.cs_session_notes.proofs.CauseLemmas.{caused_on, rows_caused_on}
 use Rattle.cs_value.specs.State.{State}
 use Rattle.cs_rows.specs.Editing.{IsWriteOf}
-use Rattle.cs_session.specs.Changes.{IsCaused}
-use Rattle.cs_session.specs.Recording.{Records}
-use Rattle.cs_session.specs.Views.{attached_of}
+use Rattle.cs_session_notes.specs.Changes.{IsCaused}
+use Rattle.cs_session.specs.Recording.{Records, RefusesEdit}
+use Rattle.cs_session_notes.specs.Views.{attached_of}
 use Rattle.cs_session.proofs.editing.edit_batch.Goals as goal
 
 pub edit_rows-requires-clause-state : goal.edit_rows-requires-clause-state
@@ -93,6 +94,18 @@ returns-in_err-edit_rows-clause-caused g c clean =
     let failed = subst (λ (s : State). IsCaused (BatchFails (Writes (IsWriteOf s c.args.edit.now)) begun mid) c.in_err-edit_rows.field-0.0) tables (c.in_err-edit_rows.ensures.caused mid_clean) in
     rw (← same) (caused_on c.from_residual-in_err-edit_rows.result _ _ c.in_err-edit_rows.field-0.0 c.from_residual-in_err-edit_rows.ensures.1
     (work_fails _ old begun mid last c.in_ok-batch.ensures.begun c.in_ok-batch.ensures.survives keeps mid_clean c.drop-batch.ensures.survives) failed)
+
+pub returns-in_err-edit_rows-clause-refused : goal.returns-in_err-edit_rows-clause-refused
+returns-in_err-edit_rows-clause-refused g c clean =
+    let old = state g.S.Store c.args.store.now in
+    let begun = state g.S.Store c.in_ok-batch.batch.store.now in
+    let mid = state g.S.Store c.edit_rows.new.rows.store.now in
+    let last = state g.S.Store c.drop-batch.new.self.0 in
+    let same : c.drop-batch.new.self.0 ≡ c.store-in_err-edit_rows-1.given.0 = search rules in
+    let mid_clean = was_clean mid last c.drop-batch.ensures.survives (rw same clean) in
+    let tables = begun_tables old begun mid c.in_ok-batch.ensures.begun c.edit_rows.ensures.kept.1 mid_clean in
+    let p = err_from_is_err_and c.from_residual-in_err-edit_rows.result c.from_residual-in_err-edit_rows.ensures.1 in
+    rw (p.1, p.2) (subst (λ (s : State). RefusesEdit s c.args.edit.now (map attached_of c.args.tables.now) c.in_err-edit_rows.field-0.0) tables (c.in_err-edit_rows.ensures.refused mid_clean))
 
 pub returns-in_err-commit-clause-caused : goal.returns-in_err-commit-clause-caused
 returns-in_err-commit-clause-caused g c clean =

@@ -1,12 +1,11 @@
 -- `editing::edit_rows`: the clauses `well_formed`, `refused`, `caused` and `kept`.
-use Rattle.std.proofs.Common.{false, map, subst}
+use Rattle.std.proofs.Common.{map, subst}
 use Rattle.std.proofs.lemmas.Result.{IfErr-weaker, err_from_is_err_and}
 use Rattle.cs_value.specs.State.{State}
 use Rattle.cs_rows.specs.Editing.{IsWriteOf}
-use Rattle.cs_session.specs.Views.{attached_of}
-use Rattle.cs_session.proofs.CauseLemmas.{caused_on, rows_caused_on}
+use Rattle.cs_session_notes.specs.Views.{attached_of}
+use Rattle.cs_session_notes.proofs.CauseLemmas.{caused_on, own_of_store, rows_caused_on}
 use Rattle.cs_session.proofs.EditLemmas.{edited_formers, refuses_edit, refuses_noting, noted_are}
-use Rattle.cs_session.proofs.KeptLemmas.{refused_keeps}
 use Rattle.cs_session.proofs.editing.edit_rows.Goals as goal
 
 pub returns-clause-well_formed : goal.returns-clause-well_formed
@@ -52,17 +51,17 @@ returns-in_err-written-clause-caused g c = λ honest.
 pub returns-in_err-check_named-clause-kept : goal.returns-in_err-check_named-clause-kept
 returns-in_err-check_named-clause-kept g c =
     let p = err_from_is_err_and c.from_residual.result c.from_residual.ensures.1 in
-    rw p.1 (g.B.Rows.keeps_so _ _ _ _ _ (λ held write h none. absurd none) c.in_err-check_named.ensures.kept)
+    rw (p.1, p.2) (g.B.Rows.keeps_so _ _ _ _ _ (λ held write h none. absurd none) c.in_err-check_named.ensures.kept)
 
 pub returns-in_err-written-clause-kept : goal.returns-in_err-written-clause-kept
 returns-in_err-written-clause-kept g c =
     let Is = IsWriteOf (g.B.Rows.state c.args.rows.now) c.args.edit.now in
     let p = err_from_is_err_and c.from_residual-in_err-written.result c.from_residual-in_err-written.ensures.1 in
-    rw p.1
-    (refused_keeps (g.B.Rows.keeps Is) (λ a b. g.B.Rows.keeps_refused Is false a b) _ _ _ (g.B.Rows.keeps_then Is _ _ _ _ (g.B.Rows.keeps_so _ Is _ _ _ (λ held write h none. absurd none) c.in_ok-check_named.ensures.kept)
+    rw (p.1, p.2, own_of_store c.in_err-written.field-0.0)
+    (g.B.Rows.keeps_then Is _ _ _ _ (g.B.Rows.keeps_so _ Is _ _ _ (λ held write h none. absurd none) c.in_ok-check_named.ensures.kept)
     (g.B.Rows.keeps_so _ Is _ _ _
     (λ held write honest is. subst (λ (s : State). IsWriteOf s c.args.edit.now held write) (c.in_ok-check_named.ensures.same (c.edit_in.ensures.was_honest honest)) is)
-    c.in_err-written.ensures.kept)))
+    c.in_err-written.ensures.kept))
 
 pub returns-clause-kept : goal.returns-clause-kept
 returns-clause-kept g c =

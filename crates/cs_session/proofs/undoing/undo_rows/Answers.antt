@@ -6,8 +6,8 @@ use Rattle.cs_apply_rows.specs.declared.running.Direction.TheVariants.{Inverse}
 use Rattle.cs_apply_rows.specs.Running.{directed}
 use Rattle.cs_apply_rows.specs.Writes.{IsRunWrite}
 use Rattle.cs_session.specs.Undoing.{IsUndoWrite}
-use Rattle.cs_session.specs.Views.{attached_of}
-use Rattle.cs_session.proofs.CauseLemmas.{caused_on, run_caused_on}
+use Rattle.cs_session_notes.specs.Views.{attached_of}
+use Rattle.cs_session_notes.proofs.CauseLemmas.{caused_on, run_caused_on}
 use Rattle.cs_session.proofs.OutcomeLemmas.{undoes, refuses_undo}
 use Rattle.cs_session.proofs.KeptLemmas.{refused_keeps}
 use Rattle.cs_session.proofs.undoing.undo_rows.Goals as goal
@@ -52,7 +52,8 @@ returns-in_err-run_changeset_in-clause-caused g c = λ honest.
 pub returns-in_err-changeset-clause-kept : goal.returns-in_err-changeset-clause-kept
 returns-in_err-changeset-clause-kept g c =
     let p = err_from_is_err_and c.from_residual.result c.from_residual.ensures.1 in
-    rw p.1 (g.B.Rows.keeps_so _ _ _ _ _ (λ held write h none. absurd none) c.in_err-changeset.ensures.kept)
+    let Is = IsUndoWrite (map attached_of c.args.tables.now) (g.B.Rows.state c.args.rows.now) in
+    rw p.1 (refused_keeps (g.B.Rows.keeps Is) (λ a b. g.B.Rows.keeps_refused Is false a b) _ _ _ (g.B.Rows.keeps_so _ Is _ _ _ (λ held write h none. absurd none) c.in_err-changeset.ensures.kept))
 
 pub returns-in_err-run_changeset_in-clause-kept : goal.returns-in_err-run_changeset_in-clause-kept
 returns-in_err-run_changeset_in-clause-kept g c =

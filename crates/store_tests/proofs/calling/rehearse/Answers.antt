@@ -11,8 +11,9 @@ use Rattle.cs_store.specs.Store.{tables_in}
 use Rattle.cs_apply_conflicts.specs.declared.conflict.Noop.{Noop}
 use Rattle.cs_apply_rows.specs.declared.report.Report.{Report}
 use Rattle.cs_apply_rows.specs.Running.{Handler}
-use Rattle.cs_session.specs.FirstImages.{AttachedTable, Notes, HasAttached, recorded, rewound_state}
-use Rattle.cs_session.specs.Attaching.{Attaches}
+use Rattle.cs_session_notes.specs.FirstImages.{AttachedTable, Notes, HasAttached, recorded, rewound_state}
+use Rattle.cs_apply_rows.specs.declared.running.Direction.TheVariants.{Forward}
+use Rattle.cs_session_notes.specs.Attaching.{Attaches}
 use Rattle.cs_session.specs.Recording.{Records, RecordsApply}
 use Rattle.cs_session.specs.Undoing.{Undoes}
 use Rattle.cs_session.specs.Runs.{Moment, Run, KeepsBefore, RowsFromBefore}
@@ -21,7 +22,7 @@ use Rattle.cs_session.proofs.RunsLemmas.{attached_step, edited_step, applied_ste
 use Rattle.store_tests.proofs.calling.rehearse.Goals as goal
 
 module _ (chooses : Handler) (noop : Noop) (file name : List ℕ) (edit : Edit) (s0 s1 s2 s3 s4 : State) (n1 n2 n3 : Notes) (report undone : Report) where
-  given_back : RowsFromBefore → Attaches s0 name [] n1 → s1 ≡ s0 → Records s1 edit n1 s2 n2 → RecordsApply chooses noop file s2 n2 report s3 n3
+  given_back : RowsFromBefore → Attaches s0 name [] n1 → s1 ≡ s0 → Records s1 edit n1 s2 n2 → RecordsApply chooses noop file Forward s2 n2 report s3 n3
       → Undoes n3 s3 undone s4 → rows_at s4 name ≡ rows_at s0 name
   unfolding attached_step edited_step applied_step
   given_back law attached same edited applied undo =
@@ -30,7 +31,7 @@ module _ (chooses : Handler) (noop : Noop) (file name : List ℕ) (edit : Edit) 
       let m2 : Moment = record { state = s2; notes = n2 } in
       let m3 : Moment = record { state = s3; notes = n3 } in
       let run : Run m0 (m1 ∷ m2 ∷ m3 ∷ []) =
-      (attached_step name m0 m1 attached same, (edited_step edit m1 m2 edited, (applied_step chooses noop file m2 m3 report applied, tt))) in
+      (attached_step name m0 m1 attached same, (edited_step edit m1 m2 edited, (applied_step chooses noop file Forward m2 m3 report applied, tt))) in
       let keeps : KeepsBefore m0 (m1 ∷ m2 ∷ m3 ∷ []) run = law m0 (m1 ∷ m2 ∷ m3 ∷ []) (record {
         has = All-from_recursion (HasAttached s0) [] tt;
         apart = AllPairs-from_recursion (λ (s t : AttachedTable). s.name ≢ t.name) [] tt;

@@ -2,7 +2,7 @@
 use Rattle.std.proofs.Common.{inl, inr, refl, sym, ◌∙◌}
 use Rattle.std.proofs.lemmas.Result.{err_from_is_err_and}
 use Rattle.cs_value.specs.Table.{IsName}
-use Rattle.cs_session.specs.Attaching.{IsNewTable}
+use Rattle.cs_session_notes.specs.Attaching.{IsNewTable}
 use Rattle.cs_session.proofs.AttachLemmas.{read_refused, attached_where_some, new_where_none, attaches, attached_rewound}
 use Rattle.cs_session.proofs.session.Session.attach.Goals as goal
 

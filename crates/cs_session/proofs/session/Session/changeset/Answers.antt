@@ -2,12 +2,12 @@
 use Rattle.std.proofs.Common.{◌≡◌, IfErr, map, rules}
 use Rattle.sqlite.specs.Held.{state}
 use Rattle.cs_store.specs.Laws.{was_clean}
-use Rattle.cs_session.specs.Views.{attached_of}
+use Rattle.cs_session_notes.specs.Views.{attached_of}
 use Rattle.cs_session.proofs.OutcomeLemmas.{begun_state, read_made, read_attached, read_leads}
 use Rattle.cs_store.specs.Failing.{BeginFails, Writes}
 use Rattle.cs_store.specs.Faults as stores
 use Rattle.cs_store.proofs.FailureLemmas.{begin_fails, work_fails}
-use Rattle.cs_session.proofs.CauseLemmas.{caused_so, rows_caused_on}
+use Rattle.cs_session_notes.proofs.CauseLemmas.{caused_so, rows_caused_on}
 use Rattle.sqlite.specs.State.{HasCleanDisk}
 use Rattle.cs_session.proofs.session.Session.changeset.Goals as goal
 

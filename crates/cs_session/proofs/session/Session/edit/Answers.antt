@@ -1,10 +1,31 @@
--- `session::Session::edit`: the clause `rewound`.
+-- `session::Session::edit`: the invariant of `self`, the clauses `same` and `rewound`.
 use Rattle.std.proofs.Common.{map}
-use Rattle.cs_session.specs.Views.{attached_of}
+use Rattle.sqlite.specs.Held.{state}
+use Rattle.cs_store.specs.Store.{tables_in}
+use Rattle.cs_session_notes.specs.FirstImages.{Notes}
+use Rattle.cs_session_notes.specs.Views.{attached_of}
+use Rattle.cs_session.specs.Recording.{Records}
 use Rattle.cs_session.proofs.EditLemmas.{records_rewound}
+use Rattle.cs_session.proofs.SettleLemmas.{are_notes, on_notes, same_notes}
 use Rattle.cs_session.proofs.session.Session.edit.Goals as goal
 
-pub returns-clause-rewound : goal.returns-clause-rewound
-returns-clause-rewound g c = λ clean.
+pub invariant_of-self : goal.invariant_of-self
+invariant_of-self g c = (
+  are_notes c.self.inside.tables c.edit_batch-result.new.tables c.settle.new.self c.self.invariant.1 c.edit_batch-result.ensures.notes c.edit_batch-result.result c.is_ok.result (c.is_ok.ensures.value, c.settle.ensures.settled)
+      c.self.invariant.0 c.edit_batch-result.ensures.well_formed,
+  c.settle.ensures.none_pending,
+)
+
+pub returns-clause-same : goal.returns-clause-same
+returns-clause-same g c =
     rw (← c.self.view_is)
-    (records_rewound c.edit_noted.result _ c.args.edit.now (map attached_of c.self.inside.tables) _ (map attached_of c.edit_noted.new.tables) (c.edit_noted.ensures.recorded clean))
+    (same_notes c.self.inside.tables c.edit_batch-result.new.tables c.settle.new.self c.self.invariant.1 c.edit_batch-result.ensures.notes c.edit_batch-result.result c.is_ok.result (c.is_ok.ensures.value, c.settle.ensures.settled))
+
+pub returns-clause-rewound : goal.returns-clause-rewound
+returns-clause-rewound g c clean =
+    let old = tables_in (state g.S.Store c.args.store.now).now in
+    let new = tables_in (state g.S.Store c.edit_batch-result.new.store).now in
+    let r = c.edit_batch-result.result in
+    let recorded = on_notes c.self.inside.tables c.edit_batch-result.new.tables c.settle.new.self c.self.invariant.1 c.edit_batch-result.ensures.notes r c.is_ok.result (c.is_ok.ensures.value, c.settle.ensures.settled)
+    (λ (notes : Notes). Records old c.args.edit.now (map attached_of c.self.inside.tables) new notes) (c.edit_batch-result.ensures.recorded clean) in
+    rw (← c.self.view_is) (records_rewound r old c.args.edit.now (map attached_of c.self.inside.tables) new (map attached_of c.settle.new.self) recorded)

@@ -9,14 +9,14 @@ use Rattle.cs_store.specs.Store.{tables_in}
 use Rattle.cs_store.proofs.CrashLemmas.{begun_tables, made_tables}
 use Rattle.cs_store.proofs.TransactLemmas.{unbegun_transacts, dropped_transacts, uncommitted_transacts, committed_transacts}
 use Rattle.cs_session.specs.Undoing.{IsUndoWrite, Undoes, UndoesInto}
-use Rattle.cs_session.specs.Views.{attached_of}
+use Rattle.cs_session_notes.specs.Views.{attached_of}
 use Rattle.cs_session.proofs.OutcomeLemmas.{begun_state}
 use Rattle.cs_store.specs.Failing.{BatchFails, BeginFails, Writes}
 use Rattle.cs_store.specs.Faults as stores
 use Rattle.cs_store.proofs.FailureLemmas.{begin_fails, commit_fails, work_fails}
-use Rattle.cs_session.proofs.CauseLemmas.{caused_on, rows_caused_on}
+use Rattle.cs_session_notes.proofs.CauseLemmas.{caused_on, rows_caused_on}
 use Rattle.cs_value.specs.State.{State}
-use Rattle.cs_session.specs.Changes.{IsCaused}
+use Rattle.cs_session_notes.specs.Changes.{IsCaused}
 use Rattle.cs_session.proofs.session.Session.undo.Goals as goal
 
 pub undo_rows-requires-clause-state : goal.undo_rows-requires-clause-state

@@ -1,0 +1,7 @@
+-- What the clause `kept` says, and the tables at other indices than those that are left have nothing pending.
+use Rattle.std.proofs.Common.{◌≡◌, map, drop}
+use Rattle.cs_session_notes.specs.Views.{kept_of, HaveNonePendingBut}
+use Rattle.cs_session_notes.proofs.attached.cut_back_at.Given as goal
+
+abbrev pub invariant-loop-index : goal.invariant-loop-index
+invariant-loop-index l = (map kept_of l.tables ≡ map kept_of l.initial.tables) × HaveNonePendingBut (drop l.index-index l.indices) l.tables

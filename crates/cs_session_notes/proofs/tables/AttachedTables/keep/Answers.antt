@@ -1,0 +1,14 @@
+-- `tables::AttachedTables::keep`: the invariant of `self`.
+use Rattle.std.proofs.Common.{◌≡◌, ◌++◌, ◌∙◌, take, drop, length, map, ap}
+use Rattle.std.proofs.lemmas.List.{take_at}
+use Rattle.cs_session_notes.specs.Views.{attached_of}
+use Rattle.cs_session_notes.proofs.PendingLemmas.{attached_names, settled_but}
+use Rattle.cs_session_notes.proofs.tables.AttachedTables.keep.Goals as goal
+
+pub invariant_of-self : goal.invariant_of-self
+invariant_of-self c =
+    let new = c.keep_at.new.tables in
+    let whole : take c.self.inside.tables.len (new ++ drop (length new) c.self.inside.tables.items) ≡ new =
+    take_at new (drop (length new) c.self.inside.tables.items) c.self.inside.tables.len (c.keep_at.auto.tables ∙ c.deref_mut.ensures.len) in
+    rw (whole, c.clear.ensures.items)
+    (c.self.invariant.0 ∙ attached_names c.self.inside.tables.items new (c.keep_at.ensures.kept ∙ ap (map attached_of) c.deref_mut.ensures.value), settled_but new c.keep_at.ensures.none_pending)

@@ -1,0 +1,7 @@
+pub mod FirstImages
+pub mod Attaching
+pub mod Noting
+pub mod Changes
+pub mod Faults
+pub mod Images
+pub mod Views
