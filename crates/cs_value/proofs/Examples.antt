@@ -24,102 +24,41 @@ computing = tt
 
 -- varints
 
--- 0 has one digit
-zero_is_spelled : varint 0 ≡ 0x00 ∷ []
+varints_are_spelled :
+    (varint 0 ≡ 0x00 ∷ [])
+    × (varint 127 ≡ 0x7f ∷ [])  -- the largest of one byte
+    × (varint 128 ≡ 0x81 ∷ 0x00 ∷ [])
+    × (varint 16383 ≡ 0xff ∷ 0x7f ∷ [])
+    × (varint 16384 ≡ 0x81 ∷ 0x80 ∷ 0x00 ∷ [])
+    × (varint 32767 ≡ 0x81 ∷ 0xff ∷ 0x7f ∷ [])  -- the largest count of columns
+    × (varint 2147483647 ≡ 0x87 ∷ 0xff ∷ 0xff ∷ 0xff ∷ 0x7f ∷ [])  -- the largest of all
 unfolding computing
-zero_is_spelled = refl
-
--- 127 is the largest of one byte
-one_byte_is_spelled : varint 127 ≡ 0x7f ∷ []
-unfolding computing
-one_byte_is_spelled = refl
-
--- 128 is the least of two
-two_bytes_are_spelled : varint 128 ≡ 0x81 ∷ 0x00 ∷ []
-unfolding computing
-two_bytes_are_spelled = refl
-
--- 16383 is the largest of two
-most_of_two_bytes_is_spelled : varint 16383 ≡ 0xff ∷ 0x7f ∷ []
-unfolding computing
-most_of_two_bytes_is_spelled = refl
-
--- 16384 is the least of three
-three_bytes_are_spelled : varint 16384 ≡ 0x81 ∷ 0x80 ∷ 0x00 ∷ []
-unfolding computing
-three_bytes_are_spelled = refl
-
--- 32767 is the largest count of columns
-most_columns_are_spelled : varint 32767 ≡ 0x81 ∷ 0xff ∷ 0x7f ∷ []
-unfolding computing
-most_columns_are_spelled = refl
-
--- 2147483647, the largest of all, has five
-largest_is_spelled : varint 2147483647 ≡ 0x87 ∷ 0xff ∷ 0xff ∷ 0xff ∷ 0x7f ∷ []
-unfolding computing
-largest_is_spelled = refl
+varints_are_spelled = (refl, refl, refl, refl, refl, refl, refl)
 
 -- values, fields and records
 
--- the integer 1
-one_is_spelled : field_bytes (Defined (Int (pos 1))) ≡ 0x01 ∷ 0 ∷ 0 ∷ 0 ∷ 0 ∷ 0 ∷ 0 ∷ 0 ∷ 1 ∷ []
+fields_are_spelled :
+    (field_bytes (Defined (Int (pos 1))) ≡ 0x01 ∷ 0 ∷ 0 ∷ 0 ∷ 0 ∷ 0 ∷ 0 ∷ 0 ∷ 1 ∷ [])
+    -- two's complement
+    × (field_bytes (Defined (Int (negsuc 0))) ≡ 0x01 ∷ 0xff ∷ 0xff ∷ 0xff ∷ 0xff ∷ 0xff ∷ 0xff ∷ 0xff ∷ 0xff ∷ [])
+    × (field_bytes (Defined (Int (negsuc 9223372036854775807))) ≡ 0x01 ∷ 0x80 ∷ 0 ∷ 0 ∷ 0 ∷ 0 ∷ 0 ∷ 0 ∷ 0 ∷ [])
+    × (field_bytes (Defined (Text (codes "x"))) ≡ 0x03 ∷ 0x01 ∷ 0x78 ∷ [])
+    × (field_bytes (Defined (Blob [])) ≡ 0x04 ∷ 0x00 ∷ [])
+    × (field_bytes (Defined (Blob (replicate 127 0))) ≡ 0x04 ∷ 0x7f ∷ replicate 127 0)
+    × (field_bytes (Defined (Blob (replicate 128 0))) ≡ 0x04 ∷ 0x81 ∷ 0x00 ∷ replicate 128 0)
+    × (field_bytes (Defined Null) ≡ 0x05 ∷ [])
+    × (field_bytes Undefined ≡ 0x00 ∷ [])
 unfolding computing
-one_is_spelled = refl
+fields_are_spelled = (refl, refl, refl, refl, refl, refl, refl, refl, refl)
 
--- the integer -1, in two's complement
-minus_one_is_spelled : field_bytes (Defined (Int (negsuc 0))) ≡ 0x01 ∷ 0xff ∷ 0xff ∷ 0xff ∷ 0xff ∷ 0xff ∷ 0xff ∷ 0xff ∷ 0xff ∷ []
+-- a row, the new record of an update of its second column, and an old image of it: the key, and the column's value
+records_are_spelled :
+    (row_bytes (Int (pos 1) ∷ Text (codes "x") ∷ []) ≡ 0x01 ∷ 0 ∷ 0 ∷ 0 ∷ 0 ∷ 0 ∷ 0 ∷ 0 ∷ 1 ∷ 0x03 ∷ 0x01 ∷ 0x78 ∷ [])
+    × (record_bytes (Undefined ∷ Defined (Text (codes "y")) ∷ []) ≡ 0x00 ∷ 0x03 ∷ 0x01 ∷ 0x79 ∷ [])
+    × (record_bytes (Defined (Int (pos 1)) ∷ Defined (Text (codes "x")) ∷ Undefined ∷ [])
+    ≡ 0x01 ∷ 0 ∷ 0 ∷ 0 ∷ 0 ∷ 0 ∷ 0 ∷ 0 ∷ 1 ∷ 0x03 ∷ 0x01 ∷ 0x78 ∷ 0x00 ∷ [])
 unfolding computing
-minus_one_is_spelled = refl
-
--- the least integer of 64 bits
-least_is_spelled : field_bytes (Defined (Int (negsuc 9223372036854775807))) ≡ 0x01 ∷ 0x80 ∷ 0 ∷ 0 ∷ 0 ∷ 0 ∷ 0 ∷ 0 ∷ 0 ∷ []
-unfolding computing
-least_is_spelled = refl
-
--- the text 'x', which is counted
-text_is_spelled : field_bytes (Defined (Text (codes "x"))) ≡ 0x03 ∷ 0x01 ∷ 0x78 ∷ []
-unfolding computing
-text_is_spelled = refl
-
--- a blob of no bytes
-empty_blob_is_spelled : field_bytes (Defined (Blob [])) ≡ 0x04 ∷ 0x00 ∷ []
-unfolding computing
-empty_blob_is_spelled = refl
-
--- the count of a blob of 127 bytes has one byte
-blob_of_127_is_spelled : field_bytes (Defined (Blob (replicate 127 0))) ≡ 0x04 ∷ 0x7f ∷ replicate 127 0
-unfolding computing
-blob_of_127_is_spelled = refl
-
--- that of a blob of 128 bytes has two
-blob_of_128_is_spelled : field_bytes (Defined (Blob (replicate 128 0))) ≡ 0x04 ∷ 0x81 ∷ 0x00 ∷ replicate 128 0
-unfolding computing
-blob_of_128_is_spelled = refl
-
--- NULL has its type alone
-null_is_spelled : field_bytes (Defined Null) ≡ 0x05 ∷ []
-unfolding computing
-null_is_spelled = refl
-
--- and so has an undefined field
-undefined_is_spelled : field_bytes Undefined ≡ 0x00 ∷ []
-unfolding computing
-undefined_is_spelled = refl
-
--- the row (1, 'x')
-row_is_spelled : row_bytes (Int (pos 1) ∷ Text (codes "x") ∷ []) ≡ 0x01 ∷ 0 ∷ 0 ∷ 0 ∷ 0 ∷ 0 ∷ 0 ∷ 0 ∷ 1 ∷ 0x03 ∷ 0x01 ∷ 0x78 ∷ []
-unfolding computing
-row_is_spelled = refl
-
--- the new record of an update of its second column
-record_is_spelled : record_bytes (Undefined ∷ Defined (Text (codes "y")) ∷ []) ≡ 0x00 ∷ 0x03 ∷ 0x01 ∷ 0x79 ∷ []
-unfolding computing
-record_is_spelled = refl
-
--- the old image of that update: the key, and the column's value
-old_image_is_spelled : record_bytes (Defined (Int (pos 1)) ∷ Defined (Text (codes "x")) ∷ Undefined ∷ []) ≡ 0x01 ∷ 0 ∷ 0 ∷ 0 ∷ 0 ∷ 0 ∷ 0 ∷ 0 ∷ 1 ∷ 0x03 ∷ 0x01 ∷ 0x78 ∷ 0x00 ∷ []
-unfolding computing
-old_image_is_spelled = refl
+records_are_spelled = (refl, refl, refl)
 
 -- 1 and 'x' are values
 row_is : IsRow (Int (pos 1) ∷ Text (codes "x") ∷ [])
@@ -148,48 +87,35 @@ null_begins : BeginsWith (0x05 ∷ 0x03 ∷ []) (field_bytes (Defined Null)) 1
 unfolding computing
 null_begins = record { whole = refl; count = refl }
 
--- the key of (1, 'x') where the first column is the key
-first_column_is_key : key_columns (1 ∷ 0 ∷ []) (Int (pos 1) ∷ Text (codes "x") ∷ []) ≡ Int (pos 1) ∷ []
-first_column_is_key = refl
-
--- the flags 2 0 1 mark the first and the third column, which stand in the order of the table
-flagged_columns_are_key : key_columns (2 ∷ 0 ∷ 1 ∷ []) (Text (codes "x") ∷ Null ∷ Int (pos 1) ∷ []) ≡ Text (codes "x") ∷ Int (pos 1) ∷ []
-flagged_columns_are_key = refl
-
--- and so they stand under the flags 2 1
-all_columns_are_key : key_columns (2 ∷ 1 ∷ []) (Int (pos 1) ∷ Text (codes "x") ∷ []) ≡ Int (pos 1) ∷ Text (codes "x") ∷ []
-all_columns_are_key = refl
+-- the columns of the key stand in the order of the table
+flagged_columns_are_key :
+    (key_columns (1 ∷ 0 ∷ []) (Int (pos 1) ∷ Text (codes "x") ∷ []) ≡ Int (pos 1) ∷ [])
+    × (key_columns (2 ∷ 0 ∷ 1 ∷ []) (Text (codes "x") ∷ Null ∷ Int (pos 1) ∷ [])
+    ≡ Text (codes "x") ∷ Int (pos 1) ∷ [])
+    × (key_columns (2 ∷ 1 ∷ []) (Int (pos 1) ∷ Text (codes "x") ∷ []) ≡ Int (pos 1) ∷ Text (codes "x") ∷ [])
+flagged_columns_are_key = (refl, refl, refl)
 
 -- faults of varints
 
 cut_is : IsCutVarint (0x81 ∷ [])
 cut_is = record { few = omega arith; go_on = (omega arith, tt); shortest = λ same. absurd (omega (arith, ap (λ o. unwrap_or o 0) same)) }
 
--- 81 goes on, and nothing follows
-cut_varint_is_truncated : VarintFails (0x81 ∷ []) Truncated 1
-cut_varint_is_truncated = (cut_is, refl)
-
--- there is no byte
-no_varint_is_truncated : VarintFails [] Truncated 0
-no_varint_is_truncated = (record { few = omega arith; go_on = tt; shortest = λ same. cc }, refl)
-
--- 80 01 has a leading zero
-leading_zero_is_bad : VarintFails (0x80 ∷ 0x01 ∷ []) BadVarint 0
-leading_zero_is_bad = (inl refl, refl)
-
--- and so has 80 alone
-lone_zero_is_bad : VarintFails (0x80 ∷ []) BadVarint 0
-lone_zero_is_bad = (inl refl, refl)
-
--- 88 80 80 80 00 is 2147483648, which is too large
-too_large_is_bad : VarintFails (0x88 ∷ 0x80 ∷ 0x80 ∷ 0x80 ∷ 0x00 ∷ []) BadVarint 0
+varints_fail :
+    VarintFails (0x81 ∷ []) Truncated 1  -- 81 goes on, and nothing follows
+    × VarintFails [] Truncated 0
+    × VarintFails (0x80 ∷ 0x01 ∷ []) BadVarint 0  -- a leading zero
+    × VarintFails (0x80 ∷ []) BadVarint 0
+    × VarintFails (0x88 ∷ 0x80 ∷ 0x80 ∷ 0x80 ∷ 0x00 ∷ []) BadVarint 0  -- 2147483648, which is too large
+    × VarintFails (0x81 ∷ 0x80 ∷ 0x80 ∷ 0x80 ∷ 0x80 ∷ []) BadVarint 0  -- it does not end
 unfolding number_at number_from
-too_large_is_bad = number_faults (0x88 ∷ 0x80 ∷ 0x80 ∷ 0x80 ∷ 0x00 ∷ []) (fault BadVarint 0) refl
-
--- 81 80 80 80 80 does not end
-too_long_is_bad : VarintFails (0x81 ∷ 0x80 ∷ 0x80 ∷ 0x80 ∷ 0x80 ∷ []) BadVarint 0
-unfolding number_at number_from
-too_long_is_bad = number_faults (0x81 ∷ 0x80 ∷ 0x80 ∷ 0x80 ∷ 0x80 ∷ []) (fault BadVarint 0) refl
+varints_fail = (
+  (cut_is, refl),
+  (record { few = omega arith; go_on = tt; shortest = λ same. cc }, refl),
+  (inl refl, refl),
+  (inl refl, refl),
+  number_faults (0x88 ∷ 0x80 ∷ 0x80 ∷ 0x80 ∷ 0x00 ∷ []) (fault BadVarint 0) refl,
+  number_faults (0x81 ∷ 0x80 ∷ 0x80 ∷ 0x80 ∷ 0x80 ∷ []) (fault BadVarint 0) refl,
+)
 
 -- faults of fields
 
