@@ -1,29 +1,30 @@
 -- The definitions of changesets, their files and their faults, on a table `t` of two columns, of which the first is
 -- the key.
 use Rattle.std.proofs.Common.{◌≡◌, ◌≢◌, ℕ, zero, suc, ◌+◌, ◌<◌, pos, negsuc, true, false, List, [], ◌∷◌, ◌++◌, map, All, slice_index_or}
-use Rattle.std.proofs.Common.{get_or, true≢false, codes, refl, sym, ap, inl, inr, arith}
+use Rattle.std.proofs.Common.{length, drop, get_or, true≢false, codes, refl, sym, ap, inl, inr, arith}
 use Rattle.std.specs.Char.{encode_utf8}
 use Rattle.std.specs.Str.{chars, is_utf8}
 use Rattle.std.proofs.lemmas.List.Elements.{All-nil, All-cons}
 use Rattle.std.proofs.lemmas.Str.{IsUtf8-from_is_utf8, is_utf8-from_IsUtf8}
 use Rattle.cs_value.specs.declared.value.OwnedValue.{OwnedValue}
 use Rattle.cs_value.specs.declared.value.OwnedValue.TheVariants.{Int, Text, Null}
+use Rattle.cs_value.specs.declared.value.OwnedField.{OwnedField}
 use Rattle.cs_value.specs.declared.value.OwnedField.TheVariants.{Undefined, Defined}
 use Rattle.cs_value.specs.Value.{IsRow}
 use Rattle.cs_value.specs.Varint.{leading_digits, varint}
 use Rattle.cs_value.specs.Spelling.{counted, value_bytes, field_bytes}
 use Rattle.cs_value.specs.declared.fault.FieldFaultKind.{FieldFaultKind}
 use Rattle.cs_value.specs.declared.fault.FieldFaultKind.TheVariants as field
-use Rattle.cs_value.specs.FieldFaults.{HasBadText, FieldFails}
+use Rattle.cs_value.specs.FieldFaults.{HasBadText, VarintFails, FieldFails}
 use Rattle.cs_wire_entries.specs.declared.entry.Change.{Change}
 use Rattle.cs_wire_entries.specs.declared.entry.Change.TheVariants.{Insert, Delete, Update}
 use Rattle.cs_wire_entries.specs.declared.entry.Entry.{Entry}
 use Rattle.cs_wire_entries.specs.declared.fault.ReadFaultKind.{ReadFaultKind}
 use Rattle.cs_wire_entries.specs.declared.fault.ReadFaultKind.TheVariants.{Truncated, NotTable, Patchset, BadVarint, ColumnCount, NoKey, BadName, DuplicateTable, EmptyGroup, BadOp, BadFlag, BadType, RealValue, BadText, UndefinedField, Unpaired, NullKey, DuplicateKey}
 use Rattle.cs_value.specs.Table.{IsName, IsFlags, IsKeyedRow}
-use Rattle.cs_wire_entries.specs.Entry.{IsKeyedUpdate, IsEntry, IsChange, entry_bytes}
+use Rattle.cs_wire_entries.specs.Entry.{IsKeyedUpdate, IsEntry, IsChange, fields_of, entry_bytes}
 use Rattle.cs_wire_entries.specs.Changeset.{HeaderData, IsHeader, GroupData, IsGroup, IsChangeset, flags_bytes, header_bytes, group_bytes, file_bytes, IsAccepted}
-use Rattle.cs_wire_entries.specs.ReadFaults.{Stands, TableStart, HeaderPart, EntryStart, FieldStart, IsOperation, HasNoField, ReadCase, ReadFails}
+use Rattle.cs_wire_entries.specs.ReadFaults.{Stands, TableStart, HeaderPart, EntryStart, FieldStart, change_front, IsOperation, HasNoCount, HasNoField, StandsBefore, ReadCase, ReadFails}
 use Rattle.cs_wire.proofs.GroupsLemmas.{EntryStart-none}
 
 computing : Unit {0}
@@ -105,16 +106,6 @@ pub update_back_is_spelled : file_bytes (one_change (update y x)) ≡ update_bac
 unfolding computing
 update_back_is_spelled = refl
 
--- a changeset of no table has no byte
-pub no_group_is_spelled : file_bytes [] ≡ []
-no_group_is_spelled = refl
-
--- the indirect flag is the byte behind the operation
-pub indirect_is_spelled : entry_bytes (record { indirect = true; change = Delete row })
-    ≡ 0x09 ∷ 0x01 ∷ 0x01 ∷ 0 ∷ 0 ∷ 0 ∷ 0 ∷ 0 ∷ 0 ∷ 0 ∷ 1 ∷ 0x03 ∷ 0x01 ∷ 0x78 ∷ []
-unfolding computing
-indirect_is_spelled = refl
-
 -- what is a changeset
 
 -- the flags 1 0 mark a key
@@ -195,11 +186,17 @@ null_row = Int (negsuc 9223372036854775807) ∷ Null ∷ []
 pub null_row_is_changeset : IsChangeset (one_change (Insert null_row))
 null_row_is_changeset = one_change_is_changeset (Insert null_row) ((record { sfits = omega arith }, (tt, tt)), (λ same. cc, tt))
 
--- NULL is spelled by its type alone
-pub null_row_is_spelled : file_bytes (one_change (Insert null_row))
-    ≡ 0x54 ∷ 0x02 ∷ 0x01 ∷ 0x00 ∷ 0x74 ∷ 0x00 ∷ 0x12 ∷ 0x00 ∷ 0x01 ∷ 0x80 ∷ 0 ∷ 0 ∷ 0 ∷ 0 ∷ 0 ∷ 0 ∷ 0 ∷ 0x05 ∷ []
+-- what else is spelled
+others_are_spelled :
+    (file_bytes [] ≡ [])
+    -- the indirect flag is the byte behind the operation
+    × (entry_bytes (record { indirect = true; change = Delete row })
+    ≡ 0x09 ∷ 0x01 ∷ 0x01 ∷ 0 ∷ 0 ∷ 0 ∷ 0 ∷ 0 ∷ 0 ∷ 0 ∷ 1 ∷ 0x03 ∷ 0x01 ∷ 0x78 ∷ [])
+    -- NULL is its type alone
+    × (file_bytes (one_change (Insert null_row))
+    ≡ 0x54 ∷ 0x02 ∷ 0x01 ∷ 0x00 ∷ 0x74 ∷ 0x00 ∷ 0x12 ∷ 0x00 ∷ 0x01 ∷ 0x80 ∷ 0 ∷ 0 ∷ 0 ∷ 0 ∷ 0 ∷ 0 ∷ 0 ∷ 0x05 ∷ [])
 unfolding computing
-null_row_is_spelled = refl
+others_are_spelled = (refl, refl, refl)
 
 -- an update may leave a value as it is
 pub update_of_same_is_changeset : IsChangeset (one_change (update x x))
@@ -285,49 +282,32 @@ unfolding group_bytes header_bytes
 other_begin_is_none b rest other ([], is, e) = cc e
 other_begin_is_none b rest other (g ∷ groups, is, e) = other (ap (λ bytes. get_or bytes 0 0) e)
 
--- a table without a change
-empty_group_is_none : IsGroup (group []) → ⊥
-empty_group_is_none g = absurd (omega (arith, g.some))
+-- these tables, changesets and names
+groups_are_none :
+    (IsGroup (group []) → ⊥)
+    × (IsGroup (group (Insert row ∷ Delete row ∷ [])) → ⊥)  -- two changes of one key
+    × ((changes more : List Change) → IsChangeset (group changes ∷ group more ∷ []) → ⊥)  -- one table twice
+    × (IsName [] → ⊥)
+groups_are_none = (
+  λ g. absurd (omega (arith, g.some)),
+  λ g. g.once 0 1 (direct (Insert row)) (omega arith) (omega arith) refl,
+  λ changes more c. c.once 0 1 (group []) (omega arith) (omega arith) refl,
+  λ n. absurd (omega (arith, n.some)),
+)
 
--- two changes of one key
-twice_one_key_is_none : IsGroup (group (Insert row ∷ Delete row ∷ [])) → ⊥
-twice_one_key_is_none g = g.once 0 1 (direct (Insert row)) (omega arith) (omega arith) refl
-
--- one table twice
-twice_one_table_is_none : (changes more : List Change) → IsChangeset (group changes ∷ group more ∷ []) → ⊥
-twice_one_table_is_none changes more c = c.once 0 1 (group []) (omega arith) (omega arith) refl
-
--- a table without a name
-no_name_is_none : IsName [] → ⊥
-no_name_is_none n = absurd (omega (arith, n.some))
-
--- NULL in the key column of a row
-null_key_is_none : IsKeyedRow flags (Null ∷ x ∷ []) → ⊥
-null_key_is_none h = h.0 refl
-
--- a row without a value for the second column
-short_row_is_none : IsKeyedRow flags (Int (pos 1) ∷ []) → ⊥
-short_row_is_none h = h.1
-
--- an update of the key from 1 to 2
-changed_key_is_none : IsKeyedUpdate flags (Defined (Int (pos 1)) ∷ Undefined ∷ []) (Defined (Int (pos 2)) ∷ Undefined ∷ []) → ⊥
-changed_key_is_none h = h.0
-
--- an update without its key
-no_key_is_none : IsKeyedUpdate flags (Undefined ∷ Defined x ∷ []) (Undefined ∷ Defined y ∷ []) → ⊥
-no_key_is_none h = h.0
-
--- an update of NULL in the key
-null_update_is_none : IsKeyedUpdate flags (Defined Null ∷ Defined x ∷ []) (Undefined ∷ Defined y ∷ []) → ⊥
-null_update_is_none h = h.0 refl
-
--- an update that has the value before alone
-unpaired_old_is_none : IsKeyedUpdate flags (Defined (Int (pos 1)) ∷ Defined x ∷ []) (Undefined ∷ Undefined ∷ []) → ⊥
-unpaired_old_is_none h = h.1.0
-
--- an update that has the value after alone
-unpaired_new_is_none : IsKeyedUpdate flags (Defined (Int (pos 1)) ∷ Undefined ∷ []) (Undefined ∷ Defined y ∷ []) → ⊥
-unpaired_new_is_none h = h.1.0
+-- these rows and updates
+rows_are_none :
+    (IsKeyedRow flags (Null ∷ x ∷ []) → ⊥)  -- NULL in the key
+    × (IsKeyedRow flags (Int (pos 1) ∷ []) → ⊥)  -- no value for the second column
+    -- an update of the key
+    × (IsKeyedUpdate flags (Defined (Int (pos 1)) ∷ Undefined ∷ []) (Defined (Int (pos 2)) ∷ Undefined ∷ []) → ⊥)
+    -- one without its key, and one of NULL in the key
+    × (IsKeyedUpdate flags (Undefined ∷ Defined x ∷ []) (Undefined ∷ Defined y ∷ []) → ⊥)
+    × (IsKeyedUpdate flags (Defined Null ∷ Defined x ∷ []) (Undefined ∷ Defined y ∷ []) → ⊥)
+    -- one that has the value before alone, and one that has the value after alone
+    × (IsKeyedUpdate flags (Defined (Int (pos 1)) ∷ Defined x ∷ []) (Undefined ∷ Undefined ∷ []) → ⊥)
+    × (IsKeyedUpdate flags (Defined (Int (pos 1)) ∷ Undefined ∷ []) (Undefined ∷ Defined y ∷ []) → ⊥)
+rows_are_none = (λ h. h.0 refl, λ h. h.1, λ h. h.0, λ h. h.0, λ h. h.0 refl, λ h. h.1.0, λ h. h.1.0)
 
 -- 0 marks no column
 no_flag_at : (place flag : ℕ) → place < 1 → slice_index_or (0 ∷ []) place flag ≡ flag → 0 < flag → ⊥
@@ -366,75 +346,94 @@ unfolding computing
 after_header rest =
     EntryStart-none (header_file ++ rest) 0 6 [] header (no_table (header_file ++ rest)) header_is (All-nil (λ g. g.header.name ≢ header.name)) (record { spelled = refl; within = omega arith })
 
--- behind its operation and its indirect flag the first field of an insert
-insert_field : (rest : List ℕ) → FieldStart (header_file ++ 0x12 ∷ 0x00 ∷ rest) 8 flags (Insert row) 0
-unfolding computing
-insert_field rest = record {
+-- where the first entry begins with these bytes, its next field: behind so many fields of this change
+field_behind : (entry : List ℕ) (at : ℕ) (change : Change) (count : ℕ) → IsChange flags change
+    → count < length (fields_of change) → Stands (header_file ++ entry) 6 (change_front change false count) at
+    → FieldStart (header_file ++ entry) at flags change count
+field_behind entry at change count is more stand = record {
   from = 6;
   header = header;
   entries = [];
-  start = after_header (0x12 ∷ 0x00 ∷ rest);
+  start = after_header entry;
   flags_are = refl;
-  is_change = (row_is, row_is_keyed);
-  more = omega arith;
+  is_change = is;
+  more = more;
   indirect = false;
-  stand = record { spelled = refl; within = omega arith };
+  stand = stand;
 }
+
+-- behind its operation and its indirect flag the first field of an insert
+insert_field : (rest : List ℕ) → FieldStart (header_file ++ 0x12 ∷ 0x00 ∷ rest) 8 flags (Insert row) 0
+unfolding computing
+insert_field rest =
+    field_behind (0x12 ∷ 0x00 ∷ rest) 8 (Insert row) 0 (row_is, row_is_keyed) (omega arith)
+    (record { spelled = refl; within = omega arith })
 
 -- and behind the field 1 the second
 second_insert_field : (rest : List ℕ) → FieldStart (header_file ++ 0x12 ∷ 0x00 ∷ (one_field ++ rest)) 17 flags (Insert row) 1
 unfolding computing
-second_insert_field rest = record {
-  from = 6;
-  header = header;
-  entries = [];
-  start = after_header (0x12 ∷ 0x00 ∷ (one_field ++ rest));
-  flags_are = refl;
-  is_change = (row_is, row_is_keyed);
-  more = omega arith;
-  indirect = false;
-  stand = record { spelled = refl; within = omega arith };
-}
+second_insert_field rest =
+    field_behind (0x12 ∷ 0x00 ∷ (one_field ++ rest)) 17 (Insert row) 1 (row_is, row_is_keyed) (omega arith)
+    (record { spelled = refl; within = omega arith })
 
 -- the first field of the old record of an update
 old_field : (rest : List ℕ) → FieldStart (header_file ++ 0x17 ∷ 0x00 ∷ rest) 8 flags (update x y) 0
 unfolding computing
-old_field rest = record {
-  from = 6;
-  header = header;
-  entries = [];
-  start = after_header (0x17 ∷ 0x00 ∷ rest);
-  flags_are = refl;
-  is_change = update_is_change x y x_is y_is;
-  more = omega arith;
-  indirect = false;
-  stand = record { spelled = refl; within = omega arith };
-}
+old_field rest =
+    field_behind (0x17 ∷ 0x00 ∷ rest) 8 (update x y) 0 (update_is_change x y x_is y_is) (omega arith)
+    (record { spelled = refl; within = omega arith })
 
 -- and the first of the new record, behind the old one
 new_field : (rest : List ℕ) → FieldStart (header_file ++ 0x17 ∷ 0x00 ∷ (one_field ++ x_field ++ rest)) 20 flags (update x y) 2
 unfolding computing
-new_field rest = record {
-  from = 6;
-  header = header;
-  entries = [];
-  start = after_header (0x17 ∷ 0x00 ∷ (one_field ++ x_field ++ rest));
-  flags_are = refl;
-  is_change = update_is_change x y x_is y_is;
-  more = omega arith;
-  indirect = false;
-  stand = record { spelled = refl; within = omega arith };
+new_field rest =
+    field_behind (0x17 ∷ 0x00 ∷ (one_field ++ x_field ++ rest)) 20 (update x y) 2 (update_is_change x y x_is y_is)
+    (omega arith) (record { spelled = refl; within = omega arith })
+
+-- behind 54 stands no count, for this reason
+no_count : (rest : List ℕ) (kind : FieldFaultKind) (behind : ℕ) → VarintFails rest kind behind
+    → HasNoCount (0x54 ∷ rest) kind (1 + behind)
+no_count rest kind behind fails = record {
+  at = 1;
+  behind = behind;
+  part = in_header (0x54 ∷ rest) [] 1 (record { spelled = refl; within = omega arith });
+  fails = fails;
+  place_is = refl;
+}
+
+-- where a field may begin stands none, for this reason
+no_field : {file : List ℕ} {at : ℕ} {change : Change} {count : ℕ} (kind : FieldFaultKind) (behind : ℕ)
+    → FieldStart file at flags change count → FieldFails (drop at file) kind behind → HasNoField file kind (at + behind)
+no_field {at = at} {change = change} {count = count} kind behind start fails = record {
+  at = at;
+  behind = behind;
+  flags = flags;
+  change = change;
+  count = count;
+  start = start;
+  fails = fails;
+  place_is = refl;
+}
+
+-- this field stands in the first column of a row or of an old record
+first_field : {file : List ℕ} {change : Change} {found : OwnedField} {Holds : List ℕ → Change → ℕ → Type 0}
+    → FieldStart file 8 flags change 0 → Stands file 8 (field_bytes found) 9 → Holds flags change 0
+    → StandsBefore file 8 found Holds
+first_field {change = change} start stands holds = record {
+  flags = flags;
+  change = change;
+  column = 0;
+  to = 9;
+  start = start;
+  in_row = omega arith;
+  stands = stands;
+  holds = holds;
 }
 
 -- behind 54 stands no count
 no_count_is_truncated : ReadCase (0x54 ∷ []) Truncated 1
-no_count_is_truncated = inl (inl (record {
-  at = 1;
-  behind = 0;
-  part = in_header (0x54 ∷ []) [] 1 (record { spelled = refl; within = omega arith });
-  fails = (record { few = omega arith; go_on = tt; shortest = λ same. cc }, refl);
-  place_is = refl;
-}))
+no_count_is_truncated =
+    inl (inl (no_count [] field.Truncated 0 (record { few = omega arith; go_on = tt; shortest = λ same. cc }, refl)))
 
 -- of two columns one has a flag
 one_flag_is_truncated : ReadCase (0x54 ∷ 0x02 ∷ 0x01 ∷ []) Truncated 3
@@ -481,16 +480,7 @@ no_flag_byte_is_truncated = inr (
 
 -- a row ends behind its first field
 no_second_field_is_truncated : ReadCase (header_file ++ 0x12 ∷ 0x00 ∷ (one_field ++ [])) Truncated 17
-no_second_field_is_truncated = inl (inr (record {
-  at = 17;
-  behind = 0;
-  flags = flags;
-  change = Insert row;
-  count = 1;
-  start = second_insert_field [];
-  fails = (inl refl, refl);
-  place_is = refl;
-}))
+no_second_field_is_truncated = inl (inr (no_field field.Truncated 0 (second_insert_field []) (inl refl, refl)))
 
 -- a file begins with the byte 41
 letter_is_no_table : ReadCase (0x41 ∷ []) NotTable 0
@@ -506,13 +496,7 @@ p_is_patchset = record { groups = []; start = no_table (0x50 ∷ []); byte = ref
 
 -- the count of columns has a leading zero
 long_count_is_bad : ReadCase (0x54 ∷ 0x80 ∷ 0x01 ∷ []) BadVarint 1
-long_count_is_bad = inl (record {
-  at = 1;
-  behind = 0;
-  part = in_header (0x54 ∷ 0x80 ∷ 0x01 ∷ []) [] 1 (record { spelled = refl; within = omega arith });
-  fails = (inl refl, refl);
-  place_is = refl;
-})
+long_count_is_bad = inl (no_count (0x80 ∷ 0x01 ∷ []) field.BadVarint 0 (inl refl, refl))
 
 -- a table has no column
 no_column_is_counted : ReadCase (0x54 ∷ 0x00 ∷ []) ColumnCount 1
@@ -602,27 +586,6 @@ two_is_bad_flag = record {
   above_one = omega arith;
 }
 
--- the first field of an insert is none, for this reason
-no_insert_field : (rest : List ℕ) (kind : FieldFaultKind) (behind : ℕ) → FieldFails rest kind behind → HasNoField (header_file ++ 0x12 ∷ 0x00 ∷ rest) kind (8 + behind)
-no_insert_field rest kind behind fails = record {
-  at = 8;
-  behind = behind;
-  flags = flags;
-  change = Insert row;
-  count = 0;
-  start = insert_field rest;
-  fails = fails;
-  place_is = refl;
-}
-
--- no type is 06
-six_is_bad_type : ReadCase (header_file ++ 0x12 ∷ 0x00 ∷ 0x06 ∷ []) BadType 8
-six_is_bad_type = no_insert_field (0x06 ∷ []) field.BadType 0 (record { kind = 6; rest = []; spelled = refl; no_type = omega arith }, refl)
-
--- the type 02 is that of reals
-two_is_real : ReadCase (header_file ++ 0x12 ∷ 0x00 ∷ 0x02 ∷ []) RealValue 8
-two_is_real = no_insert_field (0x02 ∷ []) field.RealValue 0 (refl, refl)
-
 ff_is_no_text : HasBadText (0x03 ∷ 0x01 ∷ 0xff ∷ []) 2
 unfolding computing
 ff_is_no_text = record {
@@ -634,50 +597,31 @@ ff_is_no_text = record {
   behind_count = refl;
 }
 
--- the text in the first column is the byte ff
-ff_is_bad_text : ReadCase (header_file ++ 0x12 ∷ 0x00 ∷ 0x03 ∷ 0x01 ∷ 0xff ∷ []) BadText 10
-ff_is_bad_text = no_insert_field (0x03 ∷ 0x01 ∷ 0xff ∷ []) field.BadText 2 ff_is_no_text
+-- fields that are none
+fields_are_refused :
+    ReadCase (header_file ++ 0x12 ∷ 0x00 ∷ 0x06 ∷ []) BadType 8  -- no type is 06
+    × ReadCase (header_file ++ 0x12 ∷ 0x00 ∷ 0x02 ∷ []) RealValue 8  -- the type 02 is that of reals
+    × ReadCase (header_file ++ 0x12 ∷ 0x00 ∷ 0x03 ∷ 0x01 ∷ 0xff ∷ []) BadText 10
+    × ReadCase (header_file ++ 0x12 ∷ 0x00 ∷ (one_field ++ 0x03 ∷ 0x01 ∷ 0xff ∷ [])) BadText 19  -- in the second column
+fields_are_refused = (
+  no_field field.BadType 0 (insert_field (0x06 ∷ []))
+      (record { kind = 6; rest = []; spelled = refl; no_type = omega arith }, refl),
+  no_field field.RealValue 0 (insert_field (0x02 ∷ [])) (refl, refl),
+  no_field field.BadText 2 (insert_field (0x03 ∷ 0x01 ∷ 0xff ∷ [])) ff_is_no_text,
+  no_field field.BadText 2 (second_insert_field (0x03 ∷ 0x01 ∷ 0xff ∷ [])) ff_is_no_text,
+)
 
--- the text in the second column is the byte ff
-second_ff_is_bad_text : ReadCase (header_file ++ 0x12 ∷ 0x00 ∷ (one_field ++ 0x03 ∷ 0x01 ∷ 0xff ∷ [])) BadText 19
-second_ff_is_bad_text = record {
-  at = 17;
-  behind = 2;
-  flags = flags;
-  change = Insert row;
-  count = 1;
-  start = second_insert_field (0x03 ∷ 0x01 ∷ 0xff ∷ []);
-  fails = ff_is_no_text;
-  place_is = refl;
-}
-
--- the first field of a row is undefined
-row_is_undefined : ReadCase (header_file ++ 0x12 ∷ 0x00 ∷ 0x00 ∷ []) UndefinedField 8
+-- fields that may not stand there
+fields_may_not_stand :
+    ReadCase (header_file ++ 0x12 ∷ 0x00 ∷ 0x00 ∷ []) UndefinedField 8  -- the first of a row
+    × ReadCase (header_file ++ 0x17 ∷ 0x00 ∷ 0x00 ∷ []) UndefinedField 8  -- the key of an old record
+    × ReadCase (header_file ++ 0x12 ∷ 0x00 ∷ 0x05 ∷ []) NullKey 8
 unfolding computing
-row_is_undefined = record {
-  flags = flags;
-  change = Insert row;
-  column = 0;
-  to = 9;
-  start = insert_field (0x00 ∷ []);
-  in_row = omega arith;
-  stands = record { spelled = refl; within = omega arith };
-  holds = inl tt;
-}
-
--- and so is the key of an old record
-key_is_undefined : ReadCase (header_file ++ 0x17 ∷ 0x00 ∷ 0x00 ∷ []) UndefinedField 8
-unfolding computing
-key_is_undefined = record {
-  flags = flags;
-  change = update x y;
-  column = 0;
-  to = 9;
-  start = old_field (0x00 ∷ []);
-  in_row = omega arith;
-  stands = record { spelled = refl; within = omega arith };
-  holds = inr (omega arith);
-}
+fields_may_not_stand = (
+  first_field (insert_field (0x00 ∷ [])) (record { spelled = refl; within = omega arith }) (inl tt),
+  first_field (old_field (0x00 ∷ [])) (record { spelled = refl; within = omega arith }) (inr (omega arith)),
+  first_field (insert_field (0x05 ∷ [])) (record { spelled = refl; within = omega arith }) (omega arith),
+)
 
 -- a new record has the key
 new_key_is_unpaired : ReadCase (header_file ++ 0x17 ∷ 0x00 ∷ (one_field ++ x_field ++ one_field)) Unpaired 20
@@ -693,20 +637,6 @@ new_key_is_unpaired = record {
   is_field = row_is.0;
   stands = record { spelled = refl; within = omega arith };
   unlike = λ alike. alike;
-}
-
--- the key of a row is NULL
-null_is_no_key : ReadCase (header_file ++ 0x12 ∷ 0x00 ∷ 0x05 ∷ []) NullKey 8
-unfolding computing
-null_is_no_key = record {
-  flags = flags;
-  change = Insert row;
-  column = 0;
-  to = 9;
-  start = insert_field (0x05 ∷ []);
-  in_row = omega arith;
-  stands = record { spelled = refl; within = omega arith };
-  holds = omega arith;
 }
 
 -- a second change has the key of the first

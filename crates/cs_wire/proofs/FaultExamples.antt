@@ -1,10 +1,11 @@
 -- What is no fault: for each kind of read fault a file that has none of that kind at any place, and files that differ
 -- from those of the examples of faults in the one byte that matters.
-use Rattle.std.proofs.Common.{◌≡◌, ◌≢◌, ℕ, zero, suc, ◌/◌, ◌%◌, ◌<◌, ◌≤◌, Some, List, [], ◌∷◌, ◌++◌, length, drop, get_or, unwrap_or, codes, refl, sym, ap, subst, inl, inr, arith, length-append, length-drop}
+use Rattle.std.proofs.Common.{◌≡◌, ◌≢◌, ℕ, zero, suc, ◌/◌, ◌%◌, ◌<◌, ◌≤◌, ◌==◌, false, Some, List, [], ◌∷◌, ◌++◌, length, drop, get_or, unwrap_or, codes, refl, sym, ap, subst, inl, inr, arith, length-append, length-drop}
 use Rattle.std.specs.Prelude.{◌⊎◌, IsUtf8, slice_get}
-use Rattle.std.specs.List.{AllByRecursion}
+use Rattle.std.specs.List.{AllByRecursion, list_any}
 use Rattle.std.specs.Str.{chars, is_utf8}
 use Rattle.std.specs.Char.{encode_utf8}
+use Rattle.std.proofs.lemmas.Bool.{or_parts, eqb-false}
 use Rattle.std.proofs.lemmas.List.Elements.{All-nil}
 use Rattle.std.proofs.lemmas.Str.{IsUtf8-from_is_utf8}
 use Rattle.cs_value.specs.declared.value.OwnedValue.TheVariants.{Int, Text, Blob, Null}
@@ -199,26 +200,24 @@ first_entry_is_new h =
     let none = no_entry_yet insert_file h.header h.entries h.start in
     h.not_new (subst (λ (entries : List Entry). IsNewKey h.header.flags entries (key_of h.header.flags h.entry.change)) (sym none) (All-nil (λ e. key_of h.header.flags e.change ≢ key_of h.header.flags h.entry.change)))
 
--- 13 is met where an entry may begin: the table is not empty
-thirteen_is_no_empty_table : ReadCase (header_file ++ 0x13 ∷ []) EmptyGroup 6 → ⊥
-thirteen_is_no_empty_table h =
-    h.no_entry (record { within = omega arith; no_table = λ same. absurd (omega (arith, same)); no_patchset = λ same. absurd (omega (arith, same)) })
-
--- 50 begins no entry: it is no bad operation
-patchset_is_no_operation : ReadCase (header_file ++ 0x50 ∷ []) BadOp 6 → ⊥
-patchset_is_no_operation h = h.entry.no_patchset refl
-
--- and nor is the end
-end_is_no_operation : ReadCase header_file BadOp 6 → ⊥
-end_is_no_operation h = absurd (omega (arith, h.entry.within))
-
--- a bad operation stands at its own place, and not behind it
-operation_behind_is_none : ReadCase (header_file ++ 0x13 ∷ []) BadOp 7 → ⊥
-operation_behind_is_none h = absurd (omega (arith, h.entry.within))
-
--- 1 is an indirect flag
-one_is_a_flag : ReadCase (header_file ++ 0x12 ∷ 0x01 ∷ []) BadFlag 7 → ⊥
-one_is_a_flag h = absurd (omega (arith, h.above_one))
+-- what is met where an entry may begin, and is no such fault
+entries_are_no_faults :
+    (ReadCase (header_file ++ 0x13 ∷ []) EmptyGroup 6 → ⊥)  -- a byte is met: the table is not empty
+    × (ReadCase (header_file ++ 0x50 ∷ []) BadOp 6 → ⊥)  -- 50 begins no entry
+    × (ReadCase header_file BadOp 6 → ⊥)  -- and nor does the end
+    × (ReadCase (header_file ++ 0x13 ∷ []) BadOp 7 → ⊥)  -- a bad operation stands at its own place, and not behind it
+    × (ReadCase (header_file ++ 0x12 ∷ 0x01 ∷ []) BadFlag 7 → ⊥)  -- 1 is an indirect flag
+entries_are_no_faults = (
+  λ h. h.no_entry (record {
+    within = omega arith;
+    no_table = λ same. absurd (omega (arith, same));
+    no_patchset = λ same. absurd (omega (arith, same));
+  }),
+  λ h. h.entry.no_patchset refl,
+  λ h. absurd (omega (arith, h.entry.within)),
+  λ h. absurd (omega (arith, h.entry.within)),
+  λ h. absurd (omega (arith, h.above_one)),
+)
 
 -- 05 is a type
 five_is_a_type : ReadCase (header_file ++ 0x12 ∷ 0x00 ∷ 0x05 ∷ []) BadType 8 → ⊥
@@ -242,62 +241,29 @@ integer_is_no_real h =
     no_real real = absurd (omega (arith, ap (λ o. unwrap_or o 0) real))
 
 -- a byte that a list has not is found nowhere
-found_nowhere : (byte : ℕ) (bytes : List ℕ) (at : ℕ) (rest : List ℕ) → AllByRecursion (λ b. b ≢ byte) bytes → drop at bytes ≡ byte ∷ rest → ⊥
+found_nowhere : (byte : ℕ) (bytes : List ℕ) (at : ℕ) (rest : List ℕ) → list_any (λ b. b == byte) bytes ≡ false
+    → drop at bytes ≡ byte ∷ rest → ⊥
 found_nowhere byte [] zero rest others is = cc is
 found_nowhere byte [] (suc at) rest others is = cc is
-found_nowhere byte (b ∷ bytes) zero rest others is = others.0 (ap first is)
-found_nowhere byte (b ∷ bytes) (suc at) rest others is = found_nowhere byte bytes at rest others.1 is
+found_nowhere byte (b ∷ bytes) zero rest others is =
+    eqb-false b byte (or_parts (b == byte) (list_any (λ b. b == byte) bytes) others).0 (ap first is)
+found_nowhere byte (b ∷ bytes) (suc at) rest others is =
+    found_nowhere byte bytes at rest (or_parts (b == byte) (list_any (λ b. b == byte) bytes) others).1 is
 
 -- a blob of the byte ff is no text
 blob_is_no_text : (place : ℕ) → ReadCase (header_file ++ 0x12 ∷ 0x00 ∷ 0x04 ∷ 0x01 ∷ 0xff ∷ []) BadText place → ⊥
-blob_is_no_text place h = found_nowhere 3 (header_file ++ 0x12 ∷ 0x00 ∷ 0x04 ∷ 0x01 ∷ 0xff ∷ []) h.at _ others h.fails.spelled
-  where
-    other : (b : ℕ) → (b < 3) ⊎ (3 < b) → b ≢ 3
-    other b (inl below) = λ same. absurd (omega (arith, same))
-    other b (inr above) = λ same. absurd (omega (arith, same))
+blob_is_no_text place h =
+    found_nowhere 3 (header_file ++ 0x12 ∷ 0x00 ∷ 0x04 ∷ 0x01 ∷ 0xff ∷ []) h.at _ refl h.fails.spelled
 
-    others : AllByRecursion (λ b. b ≢ 3) (header_file ++ 0x12 ∷ 0x00 ∷ 0x04 ∷ 0x01 ∷ 0xff ∷ [])
-    others = (
-      other 0x54 (inr (omega arith)),
-      (
-        other 0x02 (inl (omega arith)),
-        (
-          other 0x01 (inl (omega arith)),
-          (
-            other 0x00 (inl (omega arith)),
-            (
-              other 0x74 (inr (omega arith)),
-              (
-                other 0x00 (inl (omega arith)),
-                (
-                  other 0x12 (inr (omega arith)),
-                  (
-                    other 0x00 (inl (omega arith)),
-                    (
-                      other 0x04 (inr (omega arith)),
-                      (
-                        other 0x01 (inl (omega arith)),
-                        (other 0xff (inr (omega arith)), tt),
-                      ),
-                    ),
-                  ),
-                ),
-              ),
-            ),
-          ),
-        ),
-      ),
-    )
-
--- 1 is a value
-one_is_defined : ReadCase (header_file ++ 0x12 ∷ 0x00 ∷ one_field) UndefinedField 8 → ⊥
-unfolding field_bytes
-one_is_defined h = absurd (omega (arith, ap first h.stands.spelled))
-
--- and not NULL
-one_is_not_null : ReadCase (header_file ++ 0x12 ∷ 0x00 ∷ one_field) NullKey 8 → ⊥
+-- 1 is a value, and not NULL
+one_is_a_value :
+    (ReadCase (header_file ++ 0x12 ∷ 0x00 ∷ one_field) UndefinedField 8 → ⊥)
+    × (ReadCase (header_file ++ 0x12 ∷ 0x00 ∷ one_field) NullKey 8 → ⊥)
 unfolding value_bytes field_bytes
-one_is_not_null h = absurd (omega (arith, ap first h.stands.spelled))
+one_is_a_value = (
+  λ h. absurd (omega (arith, ap first h.stands.spelled)),
+  λ h. absurd (omega (arith, ap first h.stands.spelled)),
+)
 
 -- each field has a byte
 field_some : (f : OwnedField) → 0 < length (field_bytes f)

@@ -19,44 +19,27 @@ use Rattle.cs_wire.proofs.Examples.{flags, direct, group, one_change, x, y, row,
 abbrev Images : Type 0
 Images = ByBytes ImageData
 
--- an insertion says that there is no row, and then this one
-insert_before : before_image (Insert row) ≡ None
-insert_before = refl
+-- an insertion says that there is no row, and then this one; a deletion the reverse
+images_are :
+    (before_image (Insert row) ≡ None)
+    × (after_image flags (Insert row) ≡ Some (Defined (Int (pos 1)) ∷ Defined x ∷ []))
+    × (before_image (Delete row) ≡ Some (Defined (Int (pos 1)) ∷ Defined x ∷ []))
+    × (after_image flags (Delete row) ≡ None)
+    -- the update of 'x' to 'y' says that the row with key 1 has 'x' before and 'y' after
+    × (before_image (update x y) ≡ Some (Defined (Int (pos 1)) ∷ Defined x ∷ []))
+    × (after_image flags (update x y) ≡ Some (Defined (Int (pos 1)) ∷ Defined y ∷ []))
+    -- an update that modifies nothing says only that there is a row, before and after
+    × (before_image idle_update ≡ Some (Defined (Int (pos 1)) ∷ Undefined ∷ []))
+    × (after_image flags idle_update ≡ Some (Defined (Int (pos 1)) ∷ Undefined ∷ []))
+images_are = (refl, refl, refl, refl, refl, refl, refl, refl)
 
-insert_after : after_image flags (Insert row) ≡ Some (Defined (Int (pos 1)) ∷ Defined x ∷ [])
-insert_after = refl
-
--- a deletion the reverse
-delete_before : before_image (Delete row) ≡ Some (Defined (Int (pos 1)) ∷ Defined x ∷ [])
-delete_before = refl
-
-delete_after : after_image flags (Delete row) ≡ None
-delete_after = refl
-
--- the update of 'x' to 'y' says that the row with key 1 has 'x' before and 'y' after
-update_before : before_image (update x y) ≡ Some (Defined (Int (pos 1)) ∷ Defined x ∷ [])
-update_before = refl
-
-update_after : after_image flags (update x y) ≡ Some (Defined (Int (pos 1)) ∷ Defined y ∷ [])
-update_after = refl
-
--- an update that modifies nothing says only that there is a row, before and after
-idle_before : before_image idle_update ≡ Some (Defined (Int (pos 1)) ∷ Undefined ∷ [])
-idle_before = refl
-
-idle_after : after_image flags idle_update ≡ Some (Defined (Int (pos 1)) ∷ Undefined ∷ [])
-idle_after = refl
-
--- the row (1, 'x') has what the update says of it before, and what the idle update says
-row_is_before : HasValues row (Defined (Int (pos 1)) ∷ Defined x ∷ [])
-row_is_before = (refl, (refl, tt))
-
-row_is_idle : HasValues row (Defined (Int (pos 1)) ∷ Undefined ∷ [])
-row_is_idle = (refl, tt)
-
--- and no row has what is said of more columns
-row_is_shorter : HasValues row (Defined (Int (pos 1)) ∷ Defined x ∷ Undefined ∷ []) → ⊥
-row_is_shorter h = h.1.1
+-- the row (1, 'x') has what the update says of it before, and what the idle update says, and not what is said of more
+-- columns
+row_has_values :
+    (HasValues row (Defined (Int (pos 1)) ∷ Defined x ∷ []))
+    × (HasValues row (Defined (Int (pos 1)) ∷ Undefined ∷ []))
+    × (HasValues row (Defined (Int (pos 1)) ∷ Defined x ∷ Undefined ∷ []) → ⊥)
+row_has_values = ((refl, (refl, tt)), (refl, tt), λ h. h.1.1)
 
 -- the update is of the key of the row
 update_key : key_of flags (update x y) ≡ row_key flags row
