@@ -27,24 +27,16 @@ image row = Some (map Defined row)
 
 -- ---- net changes
 
-comes_to_be : net_between flags None (image row) ≡ Some (Insert row)
-comes_to_be = refl
-
-is_no_more : net_between flags (image row) None ≡ Some (Delete row)
-is_no_more = refl
-
-differs : net_between flags (image row) (image later) ≡ Some (update x y)
-differs = refl
-
-stays : net_between flags (image row) (image row) ≡ None
-stays = refl
-
-stays_absent : net_between flags None None ≡ None
-stays_absent = refl
-
--- 1 and '1' differ
-differs_in_type : net_between flags (image (Int (pos 1) ∷ Int (pos 1) ∷ [])) (image (Int (pos 1) ∷ Text (codes "1") ∷ [])) ≡ Some (update (Int (pos 1)) (Text (codes "1")))
-differs_in_type = refl
+net_changes :
+    (net_between flags None (image row) ≡ Some (Insert row))
+    × (net_between flags (image row) None ≡ Some (Delete row))
+    × (net_between flags (image row) (image later) ≡ Some (update x y))
+    × (net_between flags (image row) (image row) ≡ None)
+    × (net_between flags None None ≡ None)
+    -- 1 and '1' differ
+    × (net_between flags (image (Int (pos 1) ∷ Int (pos 1) ∷ [])) (image (Int (pos 1) ∷ Text (codes "1") ∷ []))
+    ≡ Some (update (Int (pos 1)) (Text (codes "1"))))
+net_changes = (refl, refl, refl, refl, refl, refl)
 
 -- ---- laid over
 
@@ -65,106 +57,65 @@ one first second = merged flags (entry true first) (entry false second)
 abbrev other : Change → Change → Merged
 other first second = merged flags (entry false first) (entry true second)
 
-insert_insert : one (Insert row) (Insert later) ≡ Keep
-insert_insert = refl
+inserted_first :
+    (one (Insert row) (Insert later) ≡ Keep)
+    × (both (Insert row) (update x y) ≡ Becomes (entry true (Insert later)))
+    -- also where the second one says that another value stood there
+    × (both (Insert row) (update Null y) ≡ Becomes (entry true (Insert later)))
+    × (both (Insert row) (Delete row) ≡ Vanish)
+inserted_first = (refl, refl, refl, refl)
 
-insert_update : both (Insert row) (update x y) ≡ Becomes (entry true (Insert later))
-insert_update = refl
+updated_first :
+    (one (update x y) (Insert row) ≡ Keep)
+    × (both (update x y) (update y Null) ≡ Becomes (entry true (update x Null)))
+    × (both (update x y) (update y x) ≡ Vanish)
+    × (both (update x y) idle_update ≡ Becomes (entry true (update x y)))
+    × (both idle_update idle_update ≡ Vanish)
+    × (both (update x y) (Delete later) ≡ Becomes (entry true (Delete row)))
+updated_first = (refl, refl, refl, refl, refl, refl)
 
--- also where the second one says that another value stood there
-insert_update_apart : both (Insert row) (update Null y) ≡ Becomes (entry true (Insert later))
-insert_update_apart = refl
-
-insert_delete : both (Insert row) (Delete row) ≡ Vanish
-insert_delete = refl
-
-update_insert : one (update x y) (Insert row) ≡ Keep
-update_insert = refl
-
-update_update : both (update x y) (update y Null) ≡ Becomes (entry true (update x Null))
-update_update = refl
-
--- back to what it was
-update_back : both (update x y) (update y x) ≡ Vanish
-update_back = refl
-
-update_idle : both (update x y) idle_update ≡ Becomes (entry true (update x y))
-update_idle = refl
-
-idle_idle : both idle_update idle_update ≡ Vanish
-idle_idle = refl
-
-update_delete : both (update x y) (Delete later) ≡ Becomes (entry true (Delete row))
-update_delete = refl
-
-delete_insert : both (Delete row) (Insert later) ≡ Becomes (entry true (update x y))
-delete_insert = refl
-
-delete_insert_same : both (Delete row) (Insert row) ≡ Vanish
-delete_insert_same = refl
-
-delete_update : one (Delete row) (update x y) ≡ Keep
-delete_update = refl
-
-delete_delete : one (Delete row) (Delete later) ≡ Keep
-delete_delete = refl
+deleted_first :
+    (both (Delete row) (Insert later) ≡ Becomes (entry true (update x y)))
+    × (both (Delete row) (Insert row) ≡ Vanish)
+    × (one (Delete row) (update x y) ≡ Keep)
+    × (one (Delete row) (Delete later) ≡ Keep)
+deleted_first = (refl, refl, refl, refl)
 
 -- a changed entry is indirect only where both were, also where the second one modifies nothing
-first_indirect : one (Insert row) idle_update ≡ Becomes (entry false (Insert row))
-first_indirect = refl
-
-second_indirect : other (update x y) (Delete later) ≡ Becomes (entry false (Delete row))
-second_indirect = refl
+indirect_where_both_were :
+    (one (Insert row) idle_update ≡ Becomes (entry false (Insert row)))
+    × (other (update x y) (Delete later) ≡ Becomes (entry false (Delete row)))
+indirect_where_both_were = (refl, refl)
 
 -- ---- changesets
 
-insert_then_update : joined (one_change (Insert row)) (one_change (update x y)) ≡ one_change (Insert later)
-unfolding value_bytes field_bytes
-insert_then_update = refl
-
-delete_then_insert : joined (one_change (Delete row)) (one_change (Insert row)) ≡ []
-unfolding value_bytes field_bytes
-delete_then_insert = refl
-
-update_then_delete : joined (one_change (update x y)) (one_change (Delete later)) ≡ one_change (Delete row)
-unfolding value_bytes field_bytes
-update_then_delete = refl
-
-delete_then_insert_later : joined (one_change (Delete row)) (one_change (Insert later)) ≡ one_change (update x y)
-unfolding value_bytes field_bytes
-delete_then_insert_later = refl
-
-update_then_back : joined (one_change (update x y)) (one_change (update y x)) ≡ []
-unfolding value_bytes field_bytes
-update_then_back = refl
-
-insert_twice : joined (one_change (Insert row)) (one_change (Insert row)) ≡ one_change (Insert row)
-unfolding value_bytes field_bytes
-insert_twice = refl
-
--- another key, behind the first
+-- another key, another table, and other flags that mark the same columns
 abbrev second_row : List OwnedValue
 second_row = Int (pos 2) ∷ x ∷ []
 
-keys_in_order : joined (one_change (Insert row)) (one_change (Insert second_row)) ≡ group (Insert row ∷ Insert second_row ∷ []) ∷ []
-unfolding value_bytes field_bytes
-keys_in_order = refl
-
--- another table, behind the first
 abbrev other_table : HeaderData
 other_table = record { name = codes "u"; flags = flags }
 
-tables_in_order : joined (one_change (Insert row)) (one_change_of other_table (Insert row)) ≡ record { header = record { name = codes "t"; flags = flags }; entries = entry false (Insert row) ∷ [] }
-    ∷ record { header = other_table; entries = entry false (Insert row) ∷ [] } ∷ []
-tables_in_order = refl
-
--- the flags of the first file stand, where those of the second mark the same columns
 abbrev marked : HeaderData
 marked = record { name = codes "t"; flags = 2 ∷ 0 ∷ [] }
 
-first_header : joined (one_change_of marked (Insert row)) (one_change (Insert second_row)) ≡ record { header = marked; entries = entry false (Insert row) ∷ entry false (Insert second_row) ∷ [] } ∷ []
+changesets_are_joined :
+    (joined (one_change (Insert row)) (one_change (update x y)) ≡ one_change (Insert later))
+    × (joined (one_change (Delete row)) (one_change (Insert row)) ≡ [])
+    × (joined (one_change (update x y)) (one_change (Delete later)) ≡ one_change (Delete row))
+    × (joined (one_change (Delete row)) (one_change (Insert later)) ≡ one_change (update x y))
+    × (joined (one_change (update x y)) (one_change (update y x)) ≡ [])
+    × (joined (one_change (Insert row)) (one_change (Insert row)) ≡ one_change (Insert row))
+    -- another key and another table stand behind the first; the flags of the first file stand
+    × (joined (one_change (Insert row)) (one_change (Insert second_row))
+    ≡ group (Insert row ∷ Insert second_row ∷ []) ∷ [])
+    × (joined (one_change (Insert row)) (one_change_of other_table (Insert row))
+    ≡ record { header = record { name = codes "t"; flags = flags }; entries = entry false (Insert row) ∷ [] }
+    ∷ record { header = other_table; entries = entry false (Insert row) ∷ [] } ∷ [])
+    × (joined (one_change_of marked (Insert row)) (one_change (Insert second_row))
+    ≡ record { header = marked; entries = entry false (Insert row) ∷ entry false (Insert second_row) ∷ [] } ∷ [])
 unfolding value_bytes field_bytes
-first_header = refl
+changesets_are_joined = (refl, refl, refl, refl, refl, refl, refl, refl, refl)
 
 -- ---- tables that differ
 
