@@ -78,121 +78,55 @@ meets change row = conflict_kind (is_refused refuses flags change) change row
 abbrev leaves : Change → Option (List OwnedValue) → (Kind → Choice) → Option (Option (List OwnedValue))
 leaves change row choose = entry_result (is_refused refuses flags change) flags change row choose
 
--- the update of 'x' to 'y' meets no conflict at (1, 'x')
-update_meets_none : meets (update x y) (Some row) ≡ None
-update_meets_none = refl
+-- the update of 'x' to 'y', its inverse, an update of 'x' to 'x' and one that modifies nothing meet no conflict at the
+-- row that they say, and leave the new one, whatever the choice
+update_meets : (choose : Kind → Choice) →
+    (meets (update x y) (Some row) ≡ None)
+    × (leaves (update x y) (Some row) choose ≡ Some (Some later))
+    × (meets (update y x) (Some later) ≡ None)
+    × (leaves (update y x) (Some later) choose ≡ Some (Some row))
+    × (meets (update x x) (Some row) ≡ None)
+    × (leaves (update x x) (Some row) choose ≡ Some (Some row))
+    × (meets idle_update (Some row) ≡ None)
+    × (row_after flags idle_update (Some row) ≡ Some row)
+update_meets choose = (refl, refl, refl, refl, refl, refl, refl, refl)
 
--- and leaves (1, 'y'), whatever the choice
-update_leaves_later : (choose : Kind → Choice) → leaves (update x y) (Some row) choose ≡ Some (Some later)
-update_leaves_later choose = refl
+-- where another value stands, or no row, an update meets a conflict
+other_update_meets :
+    (meets (update x y) (Some apart) ≡ Some Data)
+    × (leaves (update x y) (Some apart) (always Replace) ≡ Some (Some later))
+    × (meets idle_update None ≡ Some NotFound)
+    × (meets (update x y) None ≡ Some NotFound)
+    × (leaves (update x y) None (always Omit) ≡ Some None)
+    -- NULL is such a value
+    × (meets (update Null y) (Some null_row) ≡ None)
+    × (meets (update Null y) (Some row) ≡ Some Data)
+    -- the third column, which the update of the second does not say, stays
+    × (conflict_kind false middle_update (Some (wide (Text (codes "z")))) ≡ Some Data)
+    × (entry_result false (1 ∷ 0 ∷ 0 ∷ []) middle_update (Some (wide (Text (codes "z")))) (always Replace)
+    ≡ Some (Some (wide y)))
+other_update_meets = (refl, refl, refl, refl, refl, refl, refl, refl, refl)
 
--- its inverse meets none at (1, 'y')
-update_back_meets_none : meets (update y x) (Some later) ≡ None
-update_back_meets_none = refl
+insert_meets : (choose : Kind → Choice) →
+    (meets (Insert second_row) None ≡ None)
+    × (leaves (Insert second_row) None choose ≡ Some (Some second_row))
+    -- (1, 'z') has the key of (1, 'x')
+    × (meets (Insert row) (Some apart) ≡ Some Conflict)
+    × (leaves (Insert row) (Some apart) (always Omit) ≡ Some (Some apart))
+    × (leaves (Insert row) (Some apart) (always Replace) ≡ Some (Some row))
+    × (leaves (Insert row) (Some apart) (always Abort) ≡ None)
+insert_meets choose = (refl, refl, refl, refl, refl, refl)
 
--- and gives (1, 'x') back
-update_back_leaves_row : (choose : Kind → Choice) → leaves (update y x) (Some later) choose ≡ Some (Some row)
-update_back_leaves_row choose = refl
-
--- the update of 'x' to 'y' meets (1, 'z'), which has another value
-update_meets_data : meets (update x y) (Some apart) ≡ Some Data
-update_meets_data = refl
-
--- and leaves (1, 'y') in its place where that is chosen
-update_replaces : leaves (update x y) (Some apart) (always Replace) ≡ Some (Some later)
-update_replaces = refl
-
--- an update of 'x' to 'x' meets none at (1, 'x')
-update_of_same_meets_none : meets (update x x) (Some row) ≡ None
-update_of_same_meets_none = refl
-
--- and leaves it
-update_of_same_leaves_row : (choose : Kind → Choice) → leaves (update x x) (Some row) choose ≡ Some (Some row)
-update_of_same_leaves_row choose = refl
-
--- an update that modifies nothing meets none at (1, 'x')
-idle_update_meets_none : meets idle_update (Some row) ≡ None
-idle_update_meets_none = refl
-
--- and leaves the row, whose second column it does not say
-idle_update_leaves_row : row_after flags idle_update (Some row) ≡ Some row
-idle_update_leaves_row = refl
-
--- where no row stands it finds none
-idle_update_finds_none : meets idle_update None ≡ Some NotFound
-idle_update_finds_none = refl
-
--- an insert of (2, 'q') where no row stands meets none
-insert_meets_none : meets (Insert second_row) None ≡ None
-insert_meets_none = refl
-
--- and leaves that row
-insert_leaves_row : (choose : Kind → Choice) → leaves (Insert second_row) None choose ≡ Some (Some second_row)
-insert_leaves_row choose = refl
-
--- an insert of (1, 'x') meets (1, 'z'), which has its key
-insert_meets_conflict : meets (Insert row) (Some apart) ≡ Some Conflict
-insert_meets_conflict = refl
-
--- passed over it leaves (1, 'z')
-insert_omitted : leaves (Insert row) (Some apart) (always Omit) ≡ Some (Some apart)
-insert_omitted = refl
-
--- in its place it leaves (1, 'x')
-insert_replaces : leaves (Insert row) (Some apart) (always Replace) ≡ Some (Some row)
-insert_replaces = refl
-
--- and where all is to end it leaves nothing
-insert_aborts : leaves (Insert row) (Some apart) (always Abort) ≡ None
-insert_aborts = refl
-
--- a delete of (1, 'x') at that row leaves none
-delete_leaves_none : (choose : Kind → Choice) → leaves (Delete row) (Some row) choose ≡ Some None
-delete_leaves_none choose = refl
-
--- where no row stands it finds none
-delete_finds_none : meets (Delete row) None ≡ Some NotFound
-delete_finds_none = refl
-
--- and there is nothing to replace
-delete_of_none_ends : leaves (Delete row) None (always Replace) ≡ None
-delete_of_none_ends = refl
-
--- passed over it leaves none
-delete_of_none_omitted : leaves (Delete row) None (always Omit) ≡ Some None
-delete_of_none_omitted = refl
-
--- a delete of (1, 'x') meets (1, 'y'), which has another value
-delete_meets_data : meets (Delete row) (Some later) ≡ Some Data
-delete_meets_data = refl
-
--- and leaves no row where it is carried out in its place
-delete_replaces : leaves (Delete row) (Some later) (always Replace) ≡ Some None
-delete_replaces = refl
-
--- an update from NULL meets none at (1, NULL)
-update_from_null_meets_none : meets (update Null y) (Some null_row) ≡ None
-update_from_null_meets_none = refl
-
--- and meets (1, 'x'), which has another value
-update_from_null_meets_data : meets (update Null y) (Some row) ≡ Some Data
-update_from_null_meets_data = refl
-
--- where no row stands an update finds none
-update_finds_none : meets (update x y) None ≡ Some NotFound
-update_finds_none = refl
-
--- and passed over it leaves none
-update_of_none_omitted : leaves (update x y) None (always Omit) ≡ Some None
-update_of_none_omitted = refl
-
--- an update of the second of three columns meets (1, 'z', 'q'), which has another value there
-middle_update_meets_data : conflict_kind false middle_update (Some (wide (Text (codes "z")))) ≡ Some Data
-middle_update_meets_data = refl
-
--- in its place it leaves (1, 'y', 'q'): the third column, which it does not say, stays
-middle_update_replaces : entry_result false (1 ∷ 0 ∷ 0 ∷ []) middle_update (Some (wide (Text (codes "z")))) (always Replace) ≡ Some (Some (wide y))
-middle_update_replaces = refl
+delete_meets : (choose : Kind → Choice) →
+    (leaves (Delete row) (Some row) choose ≡ Some None)
+    -- where no row stands there is nothing to replace
+    × (meets (Delete row) None ≡ Some NotFound)
+    × (leaves (Delete row) None (always Replace) ≡ None)
+    × (leaves (Delete row) None (always Omit) ≡ Some None)
+    -- (1, 'y') has another value
+    × (meets (Delete row) (Some later) ≡ Some Data)
+    × (leaves (Delete row) (Some later) (always Replace) ≡ Some None)
+delete_meets choose = (refl, refl, refl, refl, refl, refl)
 
 -- ---- a column that refuses NULL
 
@@ -203,57 +137,36 @@ meets_all change row choose = kinds_met (is_refused both_refuse flags change) ch
 abbrev leaves_all : Change → Option (List OwnedValue) → (Kind → Choice) → Option (Option (List OwnedValue))
 leaves_all change row choose = entry_result (is_refused both_refuse flags change) flags change row choose
 
--- an insert of (1, NULL) where no row stands breaks that rule
-null_insert_is_refused : meets_all (Insert null_row) None (always Replace) ≡ Constraint ∷ []
-null_insert_is_refused = refl
-
--- and meets nothing in t, where b may be NULL
-null_insert_meets_none : meets (Insert null_row) None ≡ None
-null_insert_meets_none = refl
-
--- passed over it leaves no row
-null_insert_omitted : leaves_all (Insert null_row) None (always Omit) ≡ Some None
-null_insert_omitted = refl
-
--- and it cannot be carried out all the same
-null_insert_ends : leaves_all (Insert null_row) None (always Replace) ≡ None
-null_insert_ends = refl
-
-null_insert_aborts : leaves_all (Insert null_row) None (always Abort) ≡ None
-null_insert_aborts = refl
-
--- where (1, 'x') stands it meets that row
-null_insert_meets_row : meets_all (Insert null_row) (Some row) (always Omit) ≡ Conflict ∷ []
-null_insert_meets_row = refl
-
--- and in place of that row breaks the rule
-null_insert_replaces : meets_all (Insert null_row) (Some row) (always Replace) ≡ Conflict ∷ Constraint ∷ []
-null_insert_replaces = refl
-
--- the choices for the two need not be one: where the second is passed over (1, 'x') stays
+-- these choices replace a row, and pass over what breaks the rule
 abbrev replace_row : Kind → Choice
 replace_row Constraint = Omit
 replace_row Conflict = Replace
 replace_row Data = Replace
 replace_row NotFound = Omit
 
-null_insert_keeps_row : leaves_all (Insert null_row) (Some row) replace_row ≡ Some (Some row)
-null_insert_keeps_row = refl
+-- an insert of (1, NULL) where no row stands breaks that rule, and meets nothing in t, where b may be NULL
+null_insert_meets :
+    (meets_all (Insert null_row) None (always Replace) ≡ Constraint ∷ [])
+    × (meets (Insert null_row) None ≡ None)
+    -- it cannot be carried out all the same
+    × (leaves_all (Insert null_row) None (always Omit) ≡ Some None)
+    × (leaves_all (Insert null_row) None (always Replace) ≡ None)
+    × (leaves_all (Insert null_row) None (always Abort) ≡ None)
+    -- where (1, 'x') stands it meets that row, and in its place breaks the rule
+    × (meets_all (Insert null_row) (Some row) (always Omit) ≡ Conflict ∷ [])
+    × (meets_all (Insert null_row) (Some row) (always Replace) ≡ Conflict ∷ Constraint ∷ [])
+    -- the choices for the two need not be one: where the second is passed over (1, 'x') stays
+    × (leaves_all (Insert null_row) (Some row) replace_row ≡ Some (Some row))
+null_insert_meets = (refl, refl, refl, refl, refl, refl, refl, refl)
 
--- an update of 'x' to NULL breaks the rule at (1, 'x')
-null_update_is_refused : meets_all (update x Null) (Some row) (always Replace) ≡ Constraint ∷ []
-null_update_is_refused = refl
-
--- at (1, 'z') it meets the other value, and in its place breaks the rule
-null_update_meets_row : meets_all (update x Null) (Some apart) (always Omit) ≡ Data ∷ []
-null_update_meets_row = refl
-
-null_update_replaces : meets_all (update x Null) (Some apart) (always Replace) ≡ Data ∷ Constraint ∷ []
-null_update_replaces = refl
-
--- where no row stands it finds none, and that alone
-null_update_finds_none : meets_all (update x Null) None (always Replace) ≡ NotFound ∷ []
-null_update_finds_none = refl
+-- an update of 'x' to NULL breaks the rule at (1, 'x'), and at (1, 'z') in place of the other value; where no row
+-- stands it finds none, and that alone
+null_update_meets :
+    (meets_all (update x Null) (Some row) (always Replace) ≡ Constraint ∷ [])
+    × (meets_all (update x Null) (Some apart) (always Omit) ≡ Data ∷ [])
+    × (meets_all (update x Null) (Some apart) (always Replace) ≡ Data ∷ Constraint ∷ [])
+    × (meets_all (update x Null) None (always Replace) ≡ NotFound ∷ [])
+null_update_meets = (refl, refl, refl, refl)
 
 -- an update that does not say b does not break it
 idle_update_is_not_refused : (choose : Kind → Choice) → meets_all idle_update (Some row) choose ≡ []
@@ -263,76 +176,41 @@ idle_update_is_not_refused choose = refl
 deletes_break_none : (rules : List Bool) (old : List OwnedValue) → is_refused rules flags (Delete old) ≡ false
 deletes_break_none rules old = refl
 
--- an insert that is refused is not idle where no row stands
-null_insert_is_not_idle : is_idle true flags (Insert null_row) None ≡ false
-null_insert_is_not_idle = refl
-
 -- ---- changes that change nothing
 
 -- a change is idle in t
 abbrev idles : Change → Option (List OwnedValue) → Bool
 idles change row = is_idle (is_refused refuses flags change) flags change row
 
--- an insert of (1, 'x') is idle at that row, and not at (1, 'z')
-insert_is_idle : idles (Insert row) (Some row) ≡ true
-insert_is_idle = refl
-
-other_insert_is_not_idle : idles (Insert row) (Some apart) ≡ false
-other_insert_is_not_idle = refl
-
--- nor where no row stands, where it meets no conflict
-new_insert_is_not_idle : idles (Insert row) None ≡ false
-new_insert_is_not_idle = refl
-
--- a delete is idle where no row stands, and not at another row than its own
-delete_is_idle : idles (Delete row) None ≡ true
-delete_is_idle = refl
-
-other_delete_is_not_idle : idles (Delete row) (Some later) ≡ false
-other_delete_is_not_idle = refl
-
--- the update of 'x' to 'y' is idle at (1, 'y'), and neither at (1, 'x') nor at (1, 'z') nor where no row stands
-update_is_idle : idles (update x y) (Some later) ≡ true
-update_is_idle = refl
-
-clean_update_is_not_idle : idles (update x y) (Some row) ≡ false
-clean_update_is_not_idle = refl
-
-other_update_is_not_idle : idles (update x y) (Some apart) ≡ false
-other_update_is_not_idle = refl
-
-update_of_none_is_not_idle : idles (update x y) None ≡ false
-update_of_none_is_not_idle = refl
+-- an insert is idle at the row that it inserts, a delete where no row stands, and an update at the row that it makes
+idle_changes :
+    (idles (Insert row) (Some row) ≡ true)
+    × (idles (Insert row) (Some apart) ≡ false)
+    × (idles (Insert row) None ≡ false)
+    × (idles (Delete row) None ≡ true)
+    × (idles (Delete row) (Some later) ≡ false)
+    × (idles (update x y) (Some later) ≡ true)
+    × (idles (update x y) (Some row) ≡ false)
+    × (idles (update x y) (Some apart) ≡ false)
+    × (idles (update x y) None ≡ false)
+    -- nor is an insert that a column refuses
+    × (is_idle true flags (Insert null_row) None ≡ false)
+idle_changes = (refl, refl, refl, refl, refl, refl, refl, refl, refl, refl)
 
 -- ---- the columns of a group and of its table
 
--- there is no table
-no_table_is_skipped : judgement flags None ≡ Skipped
-no_table_is_skipped = refl
-
--- it has a third column
-third_column_is_wider : judgement flags (Some (1 ∷ 0 ∷ 0 ∷ [])) ≡ Wider
-third_column_is_wider = refl
-
--- so it is where that column is of the key
-third_key_column_is_wider : judgement flags (Some (1 ∷ 0 ∷ 1 ∷ [])) ≡ Wider
-third_key_column_is_wider = refl
-
--- it has the second column as its key
-other_key_is_skipped : judgement flags (Some (0 ∷ 1 ∷ [])) ≡ Skipped
-other_key_is_skipped = refl
-
--- it has no second column
-one_column_is_skipped : judgement flags (Some (1 ∷ [])) ≡ Skipped
-one_column_is_skipped = refl
-
--- it has the same columns
-same_columns_are_compatible : judgement flags (Some flags) ≡ Compatible
-same_columns_are_compatible = refl
-
--- any flag other than 0 marks a column of the key
-any_mark_is_compatible : (mark : ℕ) → judgement (suc mark ∷ 0 ∷ []) (Some flags) ≡ Compatible
-any_mark_is_compatible mark = refl
+tables_are_judged :
+    (judgement flags None ≡ Skipped)
+    -- a third column, which may be of the key
+    × (judgement flags (Some (1 ∷ 0 ∷ 0 ∷ [])) ≡ Wider)
+    × (judgement flags (Some (1 ∷ 0 ∷ 1 ∷ [])) ≡ Wider)
+    -- another key, and no second column
+    × (judgement flags (Some (0 ∷ 1 ∷ [])) ≡ Skipped)
+    × (judgement flags (Some (1 ∷ [])) ≡ Skipped)
+    × (judgement flags (Some flags) ≡ Compatible)
+    -- any flag other than 0 marks a column of the key
+    × ((mark : ℕ) → judgement (suc mark ∷ 0 ∷ []) (Some flags) ≡ Compatible)
+tables_are_judged = (refl, refl, refl, refl, refl, refl, λ mark. refl)
 
 -- ---- changesets and states
 
@@ -595,23 +473,19 @@ z_meets_none choose = ap (λ (j : Judgement). flat_map (met_at (state_of row) ch
 
 -- ---- the join of two entries of one key
 
--- the insert of (1, 'x') and the update of 'x' to 'y' become the insert of (1, 'y')
-inserted_later : merged flags (direct (Insert row)) (direct (update x y)) ≡ Becomes (direct (Insert later))
-inserted_later = refl
-
--- which meets no conflict where the first meets none, and leaves what the second leaves
-joined_meets_none : meets (Insert later) None ≡ None
-joined_meets_none = refl
-
-joined_leaves_same : row_after flags (Insert later) None ≡ row_after flags (update x y) (row_after flags (Insert row) None)
-joined_leaves_same = refl
+-- the insert of (1, 'x') and the update of 'x' to 'y' become the insert of (1, 'y'), which meets no conflict where the
+-- first meets none, and leaves what the second leaves
+joined_later :
+    (merged flags (direct (Insert row)) (direct (update x y)) ≡ Becomes (direct (Insert later)))
+    × (meets (Insert later) None ≡ None)
+    × (row_after flags (Insert later) None ≡ row_after flags (update x y) (row_after flags (Insert row) None))
+joined_later = (refl, refl, refl)
 
 -- where the second meets a conflict the first stays
-inserted_twice : merged flags (direct (Insert row)) (direct (Insert later)) ≡ Keep
-inserted_twice = refl
-
-second_meets_conflict : meets (Insert later) (row_after flags (Insert row) None) ≡ Some Conflict
-second_meets_conflict = refl
+joined_first :
+    (merged flags (direct (Insert row)) (direct (Insert later)) ≡ Keep)
+    × (meets (Insert later) (row_after flags (Insert row) None) ≡ Some Conflict)
+joined_first = (refl, refl)
 
 -- and then leaves another row than both, the second in place of what stood there
 joined_leaves_other : leaves (Insert later) (row_after flags (Insert row) None) (always Replace) ≢ Some (row_after flags (Insert row) None)
