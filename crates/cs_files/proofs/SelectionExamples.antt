@@ -7,14 +7,11 @@ use Rattle.cs_files.specs.Chaining.{files_in}
 two_names : names_in (97 ∷ 0 ∷ 98 ∷ 0 ∷ []) ≡ (97 ∷ []) ∷ (98 ∷ []) ∷ [] ∷ []
 two_names = refl
 
--- b is named, and c is not
-b_is_named : is_among (97 ∷ 0 ∷ 98 ∷ []) (98 ∷ []) ≡ true
+b_alone_is_named :
+    (is_among (97 ∷ 0 ∷ 98 ∷ []) (98 ∷ []) ≡ true)
+    × (is_among (97 ∷ 0 ∷ 98 ∷ []) (99 ∷ []) ≡ false)
 unfolding is_among
-b_is_named = refl
-
-c_is_not_named : is_among (97 ∷ 0 ∷ 98 ∷ []) (99 ∷ []) ≡ false
-unfolding is_among
-c_is_not_named = refl
+b_alone_is_named = (refl, refl)
 
 -- three bytes are a file of two bytes, one of none and one of one
 three_files : files_in (7 ∷ 8 ∷ 9 ∷ []) (2 ∷ 0 ∷ 1 ∷ []) ≡ (7 ∷ 8 ∷ []) ∷ [] ∷ (9 ∷ []) ∷ []

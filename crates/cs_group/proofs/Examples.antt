@@ -120,10 +120,10 @@ changesets_are_joined = (refl, refl, refl, refl, refl, refl, refl, refl, refl)
 -- ---- tables that differ
 
 -- the table t of three columns
-abbrev wider : HeaderData
+abbrev pub wider : HeaderData
 wider = record { name = codes "t"; flags = 1 ∷ 0 ∷ 0 ∷ [] }
 
-abbrev wide : List GroupData
+abbrev pub wide : List GroupData
 wide = one_change_of wider (Insert (Int (pos 1) ∷ Null ∷ Null ∷ []))
 
 clashes : AgreesWith (one_change (Insert row)) (record { header = wider; entries = entry false (Insert (Int (pos 1) ∷ Null ∷ Null ∷ [])) ∷ [] }) → ⊥
@@ -131,14 +131,14 @@ clashes agrees =
     let same : key_marks flags ≡ key_marks wider.flags = agrees 0 (record { header = wider; entries = [] }) (omega arith) refl in
     absurd cc
 
-first_clashes : FirstClash (one_change (Insert row)) wide 0
+pub first_clashes : FirstClash (one_change (Insert row)) wide 0
 first_clashes = record { within = omega arith; before = All-nil (AgreesWith (one_change (Insert row))); clash = λ d. clashes }
 
--- and those that agree
-joinable : AreJoinable (one_change (Insert row)) (one_change (update x y))
-joinable zero d lt zero e e_lt same = refl
-joinable zero d lt (suc j) e e_lt same = absurd (omega (arith, e_lt))
-joinable (suc k) d lt j e e_lt same = absurd (omega (arith, lt))
+-- those of one table and the same columns agree
+pub one_table_agrees : (first second : Change) → AreJoinable (one_change first) (one_change second)
+one_table_agrees first second zero d lt zero e e_lt same = refl
+one_table_agrees first second zero d lt (suc j) e e_lt same = absurd (omega (arith, e_lt))
+one_table_agrees first second (suc k) d lt j e e_lt same = absurd (omega (arith, lt))
 
 -- ---- inverses
 
