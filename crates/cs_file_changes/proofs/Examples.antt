@@ -1,5 +1,5 @@
 -- The changes of a small file, and what spans show of it.
-use Rattle.std.proofs.Common.{◌≡◌, [], ◌∷◌, pos, Some, None, true, false, refl, arith, inl, inr}
+use Rattle.std.proofs.Common.{◌≡◌, ℕ, [], ◌∷◌, pos, Some, None, true, false, refl, arith, inl, inr}
 use Rattle.cs_value.specs.declared.value.OwnedValue.TheVariants.{Int, Text, Null}
 use Rattle.cs_value.specs.declared.value.OwnedField.TheVariants.{Undefined, Defined}
 use Rattle.cs_wire_entries.specs.declared.entry.Change.{Change}
@@ -26,31 +26,28 @@ two_changes :
     changes_of (record {
       header = t;
       entries = record { indirect = false; change = insert_is } ∷ record { indirect = true; change = delete_is } ∷ [];
-    } ∷ []) ≡ record { header = t; entry = record { indirect = false; change = insert_is } } ∷ record { header = t; entry = record { indirect = true; change = delete_is } } ∷ []
+    } ∷ []) ≡ record { header = t; entry = record { indirect = false; change = insert_is } }
+    ∷ record { header = t; entry = record { indirect = true; change = delete_is } } ∷ []
 two_changes = refl
 
 -- an insert has no value before it, and a delete none after it
-no_old_value : field_on Old (Insert (Int (pos 1) ∷ Null ∷ [])) 0 ≡ None
-no_old_value = refl
-
-new_value : field_on New (Insert (Int (pos 1) ∷ Null ∷ [])) 1 ≡ Some (Defined Null)
-new_value = refl
-
-no_new_value : field_on New (Delete (Int (pos 2) ∷ Null ∷ [])) 0 ≡ None
-no_new_value = refl
-
--- an update has its key before it only
-update_key : field_on New (Update (Defined (Int (pos 1)) ∷ Defined Null ∷ []) (Undefined ∷ Defined (Int (pos 5)) ∷ [])) 0 ≡ Some Undefined
-update_key = refl
+fields_on_sides :
+    (field_on Old (Insert (Int (pos 1) ∷ Null ∷ [])) 0 ≡ None)
+    × (field_on New (Insert (Int (pos 1) ∷ Null ∷ [])) 1 ≡ Some (Defined Null))
+    × (field_on New (Delete (Int (pos 2) ∷ Null ∷ [])) 0 ≡ None)
+    -- an update has its key before it only
+    × (field_on New (Update (Defined (Int (pos 1)) ∷ Defined Null ∷ []) (Undefined ∷ Defined (Int (pos 5)) ∷ [])) 0
+    ≡ Some Undefined)
+fields_on_sides = (refl, refl, refl, refl)
 
 -- the text x lies at the second of three bytes
 text_is_shown : ShowsField (9 ∷ 120 ∷ 9 ∷ []) (record { kind = pos 3; integer = pos 0; offset = 1; length = 1 }) (Defined (Text (120 ∷ [])))
 text_is_shown = record { kind_is = refl; no_integer = refl; content = record { spelled = refl; within = omega arith } }
 
--- the name t lies at the first of two bytes, and a zero byte after it
-abbrev t_span : ChangeSpan
-t_span = record {
-  name = 0;
+-- a name of one byte
+abbrev name_at : ℕ → ChangeSpan
+name_at name = record {
+  name = name;
   name_length = 1;
   flags = 0;
   columns = 0;
@@ -60,23 +57,12 @@ t_span = record {
   indirect = pos 0;
 }
 
-name_ends : EndsName (116 ∷ 0 ∷ []) t_span
+-- the name t lies at the first of two bytes, and a zero byte after it
+name_ends : EndsName (116 ∷ 0 ∷ []) (name_at 0)
 name_ends = record { within = omega arith; zero = refl }
 
 -- at the end of the file no zero byte is after it
-abbrev end_span : ChangeSpan
-end_span = record {
-  name = 1;
-  name_length = 1;
-  flags = 0;
-  columns = 0;
-  records = 0;
-  records_length = 0;
-  operation = pos 0;
-  indirect = pos 0;
-}
-
-name_does_not_end : EndsName (0 ∷ 116 ∷ []) end_span → ⊥
+name_does_not_end : EndsName (0 ∷ 116 ∷ []) (name_at 1) → ⊥
 name_does_not_end ends = omega (arith, ends.within)
 
 -- the first change of a table, and one more of it, in which its key is twice
