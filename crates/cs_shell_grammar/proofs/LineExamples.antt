@@ -1,11 +1,14 @@
 -- What lines ask for: each form, in upper case and in any, and lines that ask for nothing that there is.
-use Rattle.std.proofs.Common.{true, false, [], ◌∷◌, codes, refl}
+use Rattle.std.proofs.Common.{◌≡◌, ℕ, true, false, List, [], ◌∷◌, None, Some, map, codes, refl}
 use Rattle.std.specs.Prelude.{⊤, pos, negsuc}
+use Rattle.std.specs.List.{AllByRecursion}
+use Rattle.std.specs.Str.{is_utf8}
 use Rattle.std.proofs.lemmas.Str.{IsUtf8-from_is_utf8}
+use Rattle.cs_value.specs.declared.value.OwnedValue.{OwnedValue}
 use Rattle.cs_value.specs.declared.value.OwnedValue.TheVariants.{Int, Text, Blob, Null}
 use Rattle.cs_apply_conflicts.specs.declared.conflict.Choice.TheVariants.{Omit, Replace, Abort}
 use Rattle.cs_apply_conflicts.specs.declared.conflict.Noop.TheVariants.{Report, Ignore}
-use Rattle.cs_shell_grammar.specs.Commands.{CommandData, Create, Insert, Update, Delete, Select, Load, Hex, Dump, Invert, Concat, Apply, Revert}
+use Rattle.cs_shell_grammar.specs.Commands.{CommandData, AssignmentData, Create, Insert, Update, Delete, Select, Load, Hex, Dump, Invert, Concat, Apply, Revert}
 use Rattle.cs_shell_grammar.specs.Commands.{SessionOpen, SessionAttach, SessionChangeset, SessionIsEmpty, SessionUndo, SessionClose}
 use Rattle.cs_shell_tokens.specs.Words.{words_of, behind_word, text_in, slot_in, no_word_in, one_slot_in}
 use Rattle.cs_shell_grammar.specs.Lines.{IsNothing, Spelled}
@@ -22,235 +25,153 @@ on_lines = tt
 
 -- ---- lines that ask for something
 
-creates : Spelled (codes "CREATE TABLE t(a, b, PRIMARY KEY(a));") (Create (codes "t") (codes "a" ∷ codes "b" ∷ []) (false ∷ false ∷ []) (codes "a" ∷ []))
-unfolding on_lines
-creates = line_taken _ _ (IsUtf8-from_is_utf8 _ refl) refl
+-- a line, and what it asks for
+abbrev Line : Type 0
+Line = List ℕ × CommandData
 
-creates_in_any_case : Spelled (codes "create Table t(a, \"b c\", Primary KEY(\"b c\", a)) ;\r") (Create (codes "t") (codes "a" ∷ codes "b c" ∷ []) (false ∷ false ∷ []) (codes "b c" ∷ codes "a" ∷ []))
-unfolding on_lines
-creates_in_any_case = line_taken _ _ (IsUtf8-from_is_utf8 _ refl) refl
+abbrev asks : List ℕ → CommandData → Line
+asks line command = (line, command)
 
-creates_with_a_rule : Spelled (codes "CREATE TABLE n(a, b NOT NULL, PRIMARY KEY(a));") (Create (codes "n") (codes "a" ∷ codes "b" ∷ []) (false ∷ true ∷ []) (codes "a" ∷ []))
-unfolding on_lines
-creates_with_a_rule = line_taken _ _ (IsUtf8-from_is_utf8 _ refl) refl
+-- each asks for it
+record AllAsk (lines : List Line) : Type 0 where
+  each : AllByRecursion (λ l. Spelled l.0 l.1) lines
 
-creates_with_a_rule_in_any_case : Spelled (codes "create table n(a nOt Null,\"not\" NOT\tNULL , c,primary key(a));") (Create (codes "n") (codes "a" ∷ codes "not" ∷ codes "c" ∷ []) (true ∷ true ∷ false ∷ []) (codes "a" ∷ []))
-unfolding on_lines
-creates_with_a_rule_in_any_case = line_taken _ _ (IsUtf8-from_is_utf8 _ refl) refl
+-- since it is text, and read so
+all_ask : {lines : List Line} → map (λ l. is_utf8 l.0) lines ≡ map (λ l. true) lines
+    → map (λ l. line_in l.0) lines ≡ map (λ l. Some l.1) lines → AllAsk lines
+all_ask {lines = []} text read = record { each = tt }
+all_ask {lines = l ∷ lines} text read =
+    let is_text : is_utf8 l.0 ≡ true = cc in
+    let is_read : line_in l.0 ≡ Some l.1 = cc in
+    let texts : map (λ l. is_utf8 l.0) lines ≡ map (λ l. true) lines = cc in
+    let all_read : map (λ l. line_in l.0) lines ≡ map (λ l. Some l.1) lines = cc in
+    let this : Spelled l.0 l.1 = line_taken l.0 l.1 (IsUtf8-from_is_utf8 l.0 is_text) is_read in
+    record { each = (this, (all_ask {lines = lines} texts all_read).each) }
 
-inserts : Spelled (codes "INSERT INTO t VALUES(1,'z');") (Insert (codes "t") (Int (pos 1) ∷ Text (codes "z") ∷ []))
+tables_ask : AllAsk (
+    asks (codes "CREATE TABLE t(a, b, PRIMARY KEY(a));")
+    (Create (codes "t") (codes "a" ∷ codes "b" ∷ []) (false ∷ false ∷ []) (codes "a" ∷ []))
+    ∷ asks (codes "create Table t(a, \"b c\", Primary KEY(\"b c\", a)) ;\r")
+    (Create (codes "t") (codes "a" ∷ codes "b c" ∷ []) (false ∷ false ∷ []) (codes "b c" ∷ codes "a" ∷ []))
+    ∷ asks (codes "CREATE TABLE n(a, b NOT NULL, PRIMARY KEY(a));")
+    (Create (codes "n") (codes "a" ∷ codes "b" ∷ []) (false ∷ true ∷ []) (codes "a" ∷ []))
+    ∷ asks (codes "create table n(a nOt Null,\"not\" NOT\tNULL , c,primary key(a));")
+    (Create (codes "n") (codes "a" ∷ codes "not" ∷ codes "c" ∷ []) (true ∷ true ∷ false ∷ []) (codes "a" ∷ []))
+    ∷ [])
 unfolding on_lines
-inserts = line_taken _ _ (IsUtf8-from_is_utf8 _ refl) refl
+tables_ask = all_ask refl refl
 
-inserts_in_any_case : Spelled (codes "insert inTO\"a\"\"b\"values(-9223372036854775808,9223372036854775807,'it''s',X'',x'0F',nUll);") (Insert (codes "a\"b") (Int (negsuc 9223372036854775807) ∷ Int (pos 9223372036854775807) ∷ Text (codes "it's") ∷ Blob [] ∷ Blob (15 ∷ []) ∷ Null ∷ []))
-unfolding on_lines
-inserts_in_any_case = line_taken _ _ (IsUtf8-from_is_utf8 _ refl) refl
+abbrev at : List ℕ → OwnedValue → AssignmentData
+at column value = record { column = column; value = value }
 
-inserts_one : Spelled (codes "INSERT INTO t VALUES(1);") (Insert (codes "t") (Int (pos 1) ∷ []))
+rows_ask : AllAsk (
+    asks (codes "INSERT INTO t VALUES(1,'z');") (Insert (codes "t") (Int (pos 1) ∷ Text (codes "z") ∷ []))
+    ∷ asks (codes "insert inTO\"a\"\"b\"values(-9223372036854775808,9223372036854775807,'it''s',X'',x'0F',nUll);")
+    (Insert (codes "a\"b") (Int (negsuc 9223372036854775807) ∷ Int (pos 9223372036854775807) ∷ Text (codes "it's")
+    ∷ Blob [] ∷ Blob (15 ∷ []) ∷ Null ∷ []))
+    ∷ asks (codes "INSERT INTO t VALUES(1);") (Insert (codes "t") (Int (pos 1) ∷ []))
+    ∷ asks (codes "UPDATE t SET a=2 WHERE a=1;")
+    (Update (codes "t") (at (codes "a") (Int (pos 2)) ∷ []) (at (codes "a") (Int (pos 1)) ∷ []))
+    ∷ asks (codes "Update t sEt a=3,b='' wheRE a=2 anD b=NULL;")
+    (Update (codes "t") (at (codes "a") (Int (pos 3)) ∷ at (codes "b") (Text []) ∷ [])
+    (at (codes "a") (Int (pos 2)) ∷ at (codes "b") Null ∷ []))
+    ∷ asks (codes "DELETE FROM t WHERE a=NULL;") (Delete (codes "t") (at (codes "a") Null ∷ []))
+    ∷ asks (codes "delete From t Where a='1';") (Delete (codes "t") (at (codes "a") (Text (codes "1")) ∷ []))
+    ∷ asks (codes "SELECT * FROM t;") (Select (codes "t"))
+    ∷ asks (codes "select*From\"\";") (Select [])
+    ∷ [])
 unfolding on_lines
-inserts_one = line_taken _ _ (IsUtf8-from_is_utf8 _ refl) refl
+rows_ask = all_ask refl refl
 
-updates : Spelled (codes "UPDATE t SET a=2 WHERE a=1;") (Update (codes "t") (record { column = codes "a"; value = Int (pos 2) } ∷ []) (record { column = codes "a"; value = Int (pos 1) } ∷ []))
+slots_ask : AllAsk (
+    asks (codes ".load a 540201007400") (Load (codes "a") (codes "540201007400"))
+    ∷ asks (codes ".load a") (Load (codes "a") [])
+    ∷ asks (codes ".load q 5") (Load (codes "q") (codes "5"))  -- any word
+    ∷ asks (codes "  .hex   _1 ") (Hex (codes "_1"))
+    ∷ asks (codes ".dump c") (Dump (codes "c"))
+    ∷ asks (codes ".invert a b") (Invert (codes "a") (codes "b"))
+    ∷ asks (codes ".concat a b c") (Concat (codes "a") (codes "b") (codes "c"))
+    ∷ [])
 unfolding on_lines
-updates = line_taken _ _ (IsUtf8-from_is_utf8 _ refl) refl
+slots_ask = all_ask refl refl
 
-updates_in_any_case : Spelled (codes "Update t sEt a=3,b='' wheRE a=2 anD b=NULL;") (Update (codes "t") (record { column = codes "a"; value = Int (pos 3) } ∷ record { column = codes "b"; value = Text [] } ∷ []) (record { column = codes "a"; value = Int (pos 2) } ∷ record { column = codes "b"; value = Null } ∷ []))
+-- with choices in any order
+applies_ask : AllAsk (
+    asks (codes ".apply a") (Apply (codes "a") Abort Abort Abort Abort Report)
+    ∷ asks (codes ".apply a conflict=replace") (Apply (codes "a") Abort Abort Replace Abort Report)
+    ∷ asks (codes ".apply a notfound=abort conflict=omit data=replace")
+    (Apply (codes "a") Replace Abort Omit Abort Report)
+    ∷ asks (codes ".apply a constraint=omit") (Apply (codes "a") Abort Abort Abort Omit Report)
+    ∷ asks (codes ".apply a constraint=replace conflict=replace data=omit notfound=omit")
+    (Apply (codes "a") Omit Omit Replace Replace Report)
+    ∷ asks (codes ".apply a noop=ignore") (Apply (codes "a") Abort Abort Abort Abort Ignore)
+    ∷ asks (codes ".apply a noop=report") (Apply (codes "a") Abort Abort Abort Abort Report)
+    ∷ asks (codes ".apply a conflict=replace noop=ignore data=omit") (Apply (codes "a") Omit Abort Replace Abort Ignore)
+    ∷ asks (codes ".revert a") (Revert (codes "a"))
+    ∷ [])
 unfolding on_lines
-updates_in_any_case = line_taken _ _ (IsUtf8-from_is_utf8 _ refl) refl
+applies_ask = all_ask refl refl
 
-deletes : Spelled (codes "DELETE FROM t WHERE a=NULL;") (Delete (codes "t") (record { column = codes "a"; value = Null } ∷ []))
+sessions_ask : AllAsk (
+    asks (codes ".session open") SessionOpen
+    ∷ asks (codes ".session attach t") (SessionAttach (codes "t"))
+    ∷ asks (codes ".session attach \"a  b\" ") (SessionAttach (codes "a  b"))
+    ∷ asks (codes ".session changeset c") (SessionChangeset (codes "c"))
+    ∷ asks (codes ".session isempty") SessionIsEmpty
+    ∷ asks (codes ".session undo") SessionUndo
+    ∷ asks (codes ".session close") SessionClose
+    ∷ [])
 unfolding on_lines
-deletes = line_taken _ _ (IsUtf8-from_is_utf8 _ refl) refl
-
-deletes_in_any_case : Spelled (codes "delete From t Where a='1';") (Delete (codes "t") (record { column = codes "a"; value = Text (codes "1") } ∷ []))
-unfolding on_lines
-deletes_in_any_case = line_taken _ _ (IsUtf8-from_is_utf8 _ refl) refl
-
-selects : Spelled (codes "SELECT * FROM t;") (Select (codes "t"))
-unfolding on_lines
-selects = line_taken _ _ (IsUtf8-from_is_utf8 _ refl) refl
-
-selects_in_any_case : Spelled (codes "select*From\"\";") (Select [])
-unfolding on_lines
-selects_in_any_case = line_taken _ _ (IsUtf8-from_is_utf8 _ refl) refl
-
-loads : Spelled (codes ".load a 540201007400") (Load (codes "a") (codes "540201007400"))
-unfolding on_lines
-loads = line_taken _ _ (IsUtf8-from_is_utf8 _ refl) refl
-
-loads_nothing : Spelled (codes ".load a") (Load (codes "a") [])
-unfolding on_lines
-loads_nothing = line_taken _ _ (IsUtf8-from_is_utf8 _ refl) refl
-
-loads_any_word : Spelled (codes ".load q 5") (Load (codes "q") (codes "5"))
-unfolding on_lines
-loads_any_word = line_taken _ _ (IsUtf8-from_is_utf8 _ refl) refl
-
-shows_digits : Spelled (codes "  .hex   _1 ") (Hex (codes "_1"))
-unfolding on_lines
-shows_digits = line_taken _ _ (IsUtf8-from_is_utf8 _ refl) refl
-
-dumps : Spelled (codes ".dump c") (Dump (codes "c"))
-unfolding on_lines
-dumps = line_taken _ _ (IsUtf8-from_is_utf8 _ refl) refl
-
-inverts : Spelled (codes ".invert a b") (Invert (codes "a") (codes "b"))
-unfolding on_lines
-inverts = line_taken _ _ (IsUtf8-from_is_utf8 _ refl) refl
-
-concatenates : Spelled (codes ".concat a b c") (Concat (codes "a") (codes "b") (codes "c"))
-unfolding on_lines
-concatenates = line_taken _ _ (IsUtf8-from_is_utf8 _ refl) refl
-
-applies : Spelled (codes ".apply a") (Apply (codes "a") Abort Abort Abort Abort Report)
-unfolding on_lines
-applies = line_taken _ _ (IsUtf8-from_is_utf8 _ refl) refl
-
-applies_with_a_choice : Spelled (codes ".apply a conflict=replace") (Apply (codes "a") Abort Abort Replace Abort Report)
-unfolding on_lines
-applies_with_a_choice = line_taken _ _ (IsUtf8-from_is_utf8 _ refl) refl
-
-applies_with_choices_in_any_order : Spelled (codes ".apply a notfound=abort conflict=omit data=replace") (Apply (codes "a") Replace Abort Omit Abort Report)
-unfolding on_lines
-applies_with_choices_in_any_order = line_taken _ _ (IsUtf8-from_is_utf8 _ refl) refl
-
-applies_with_a_choice_for_rules : Spelled (codes ".apply a constraint=omit") (Apply (codes "a") Abort Abort Abort Omit Report)
-unfolding on_lines
-applies_with_a_choice_for_rules = line_taken _ _ (IsUtf8-from_is_utf8 _ refl) refl
-
-applies_with_a_choice_for_each : Spelled (codes ".apply a constraint=replace conflict=replace data=omit notfound=omit") (Apply (codes "a") Omit Omit Replace Replace Report)
-unfolding on_lines
-applies_with_a_choice_for_each = line_taken _ _ (IsUtf8-from_is_utf8 _ refl) refl
-
-applies_and_ignores : Spelled (codes ".apply a noop=ignore") (Apply (codes "a") Abort Abort Abort Abort Ignore)
-unfolding on_lines
-applies_and_ignores = line_taken _ _ (IsUtf8-from_is_utf8 _ refl) refl
-
-applies_and_reports : Spelled (codes ".apply a noop=report") (Apply (codes "a") Abort Abort Abort Abort Report)
-unfolding on_lines
-applies_and_reports = line_taken _ _ (IsUtf8-from_is_utf8 _ refl) refl
-
-applies_with_options_in_any_order : Spelled (codes ".apply a conflict=replace noop=ignore data=omit") (Apply (codes "a") Omit Abort Replace Abort Ignore)
-unfolding on_lines
-applies_with_options_in_any_order = line_taken _ _ (IsUtf8-from_is_utf8 _ refl) refl
-
-reverts : Spelled (codes ".revert a") (Revert (codes "a"))
-unfolding on_lines
-reverts = line_taken _ _ (IsUtf8-from_is_utf8 _ refl) refl
-
-opens_a_session : Spelled (codes ".session open") (SessionOpen)
-unfolding on_lines
-opens_a_session = line_taken _ _ (IsUtf8-from_is_utf8 _ refl) refl
-
-attaches : Spelled (codes ".session attach t") (SessionAttach (codes "t"))
-unfolding on_lines
-attaches = line_taken _ _ (IsUtf8-from_is_utf8 _ refl) refl
-
-attaches_a_quoted_name : Spelled (codes ".session attach \"a  b\" ") (SessionAttach (codes "a  b"))
-unfolding on_lines
-attaches_a_quoted_name = line_taken _ _ (IsUtf8-from_is_utf8 _ refl) refl
-
-takes_the_changeset : Spelled (codes ".session changeset c") (SessionChangeset (codes "c"))
-unfolding on_lines
-takes_the_changeset = line_taken _ _ (IsUtf8-from_is_utf8 _ refl) refl
-
-asks_whether_it_is_empty : Spelled (codes ".session isempty") (SessionIsEmpty)
-unfolding on_lines
-asks_whether_it_is_empty = line_taken _ _ (IsUtf8-from_is_utf8 _ refl) refl
-
-undoes : Spelled (codes ".session undo") (SessionUndo)
-unfolding on_lines
-undoes = line_taken _ _ (IsUtf8-from_is_utf8 _ refl) refl
-
-closes : Spelled (codes ".session close") (SessionClose)
-unfolding on_lines
-closes = line_taken _ _ (IsUtf8-from_is_utf8 _ refl) refl
+sessions_ask = all_ask refl refl
 
 -- ---- lines that ask for nothing that there is
 
-values_without_a_comma : (command : CommandData) → Spelled (codes "INSERT INTO t VALUES(1 'x');") command → ⊥
-unfolding on_lines
-values_without_a_comma = refused _ (IsUtf8-from_is_utf8 _ refl) refl
+-- each asks for no command
+record NoneAsks (lines : List (List ℕ)) : Type 0 where
+  each : AllByRecursion (λ line. (command : CommandData) → Spelled line command → ⊥) lines
 
-session_alone : (command : CommandData) → Spelled (codes ".session") command → ⊥
-unfolding on_lines
-session_alone = refused _ (IsUtf8-from_is_utf8 _ refl) refl
+none_asks : {lines : List (List ℕ)} → map is_utf8 lines ≡ map (λ line. true) lines
+    → map line_in lines ≡ map (λ line. None) lines → NoneAsks lines
+none_asks {lines = []} text read = record { each = tt }
+none_asks {lines = line ∷ lines} text read =
+    let is_text : is_utf8 line ≡ true = cc in
+    let is_read : line_in line ≡ None = cc in
+    let texts : map is_utf8 lines ≡ map (λ line. true) lines = cc in
+    let all_read : map line_in lines ≡ map (λ line. None) lines = cc in
+    let this = refused line (IsUtf8-from_is_utf8 line is_text) is_read in
+    record { each = (this, (none_asks {lines = lines} texts all_read).each) }
 
-no_semicolon : (command : CommandData) → Spelled (codes "SELECT * FROM t") command → ⊥
+no_statement_asks : NoneAsks (
+    codes "INSERT INTO t VALUES(1 'x');"  -- no comma
+    ∷ codes "INSERT INTO t VALUES(1x);"
+    ∷ codes "INSERT INTO t VALUES(9223372036854775808);"  -- too great
+    ∷ codes "SELECT * FROM t"
+    ∷ codes "SELECT * FROM t; -- all"
+    ∷ codes "SELECT * FROM Table;"  -- a keyword is no name
+    ∷ codes "SELECT * FROM Not;"
+    ∷ codes "CREATE TABLE t(a, b);"
+    ∷ codes "CREATE TABLE t(PRIMARY KEY(a));"
+    ∷ codes "CREATE TABLE n(a, b NOT, PRIMARY KEY(a));"
+    ∷ codes "CREATE TABLE n(a, b NULL, PRIMARY KEY(a));"
+    ∷ codes "CREATE TABLE n(a, b NOT NULL NOT NULL, PRIMARY KEY(a));"
+    ∷ codes "CREATE TABLE n(a NOT NULL PRIMARY KEY(a));"
+    ∷ codes "- -"
+    ∷ [])
 unfolding on_lines
-no_semicolon = refused _ (IsUtf8-from_is_utf8 _ refl) refl
+no_statement_asks = none_asks refl refl
 
-behind_the_semicolon : (command : CommandData) → Spelled (codes "SELECT * FROM t; -- all") command → ⊥
+no_dot_line_asks : NoneAsks (
+    codes ".session"
+    ∷ codes ".Hex b"
+    -- an option given twice, and one of another name or of none
+    ∷ codes ".apply a data=omit data=omit"
+    ∷ codes ".apply a constraint=omit noop=ignore constraint=omit"
+    ∷ codes ".apply a noop=ignore data=omit noop=report"
+    ∷ codes ".apply a noop=maybe"
+    ∷ codes ".apply a noop"
+    ∷ [])
 unfolding on_lines
-behind_the_semicolon = refused _ (IsUtf8-from_is_utf8 _ refl) refl
-
-letter_behind_an_integer : (command : CommandData) → Spelled (codes "INSERT INTO t VALUES(1x);") command → ⊥
-unfolding on_lines
-letter_behind_an_integer = refused _ (IsUtf8-from_is_utf8 _ refl) refl
-
-integer_too_great : (command : CommandData) → Spelled (codes "INSERT INTO t VALUES(9223372036854775808);") command → ⊥
-unfolding on_lines
-integer_too_great = refused _ (IsUtf8-from_is_utf8 _ refl) refl
-
-keyword_as_a_name : (command : CommandData) → Spelled (codes "SELECT * FROM Table;") command → ⊥
-unfolding on_lines
-keyword_as_a_name = refused _ (IsUtf8-from_is_utf8 _ refl) refl
-
-choice_given_twice : (command : CommandData) → Spelled (codes ".apply a data=omit data=omit") command → ⊥
-unfolding on_lines
-choice_given_twice = refused _ (IsUtf8-from_is_utf8 _ refl) refl
-
-choice_for_rules_given_twice : (command : CommandData) → Spelled (codes ".apply a constraint=omit noop=ignore constraint=omit") command → ⊥
-unfolding on_lines
-choice_for_rules_given_twice = refused _ (IsUtf8-from_is_utf8 _ refl) refl
-
-noop_given_twice : (command : CommandData) → Spelled (codes ".apply a noop=ignore data=omit noop=report") command → ⊥
-unfolding on_lines
-noop_given_twice = refused _ (IsUtf8-from_is_utf8 _ refl) refl
-
-noop_of_another_name : (command : CommandData) → Spelled (codes ".apply a noop=maybe") command → ⊥
-unfolding on_lines
-noop_of_another_name = refused _ (IsUtf8-from_is_utf8 _ refl) refl
-
-noop_of_no_name : (command : CommandData) → Spelled (codes ".apply a noop") command → ⊥
-unfolding on_lines
-noop_of_no_name = refused _ (IsUtf8-from_is_utf8 _ refl) refl
-
-capital_in_a_dot_line : (command : CommandData) → Spelled (codes ".Hex b") command → ⊥
-unfolding on_lines
-capital_in_a_dot_line = refused _ (IsUtf8-from_is_utf8 _ refl) refl
-
-hyphens_apart : (command : CommandData) → Spelled (codes "- -") command → ⊥
-unfolding on_lines
-hyphens_apart = refused _ (IsUtf8-from_is_utf8 _ refl) refl
-
-no_key : (command : CommandData) → Spelled (codes "CREATE TABLE t(a, b);") command → ⊥
-unfolding on_lines
-no_key = refused _ (IsUtf8-from_is_utf8 _ refl) refl
-
-no_column : (command : CommandData) → Spelled (codes "CREATE TABLE t(PRIMARY KEY(a));") command → ⊥
-unfolding on_lines
-no_column = refused _ (IsUtf8-from_is_utf8 _ refl) refl
-
-not_without_null : (command : CommandData) → Spelled (codes "CREATE TABLE n(a, b NOT, PRIMARY KEY(a));") command → ⊥
-unfolding on_lines
-not_without_null = refused _ (IsUtf8-from_is_utf8 _ refl) refl
-
-null_without_not : (command : CommandData) → Spelled (codes "CREATE TABLE n(a, b NULL, PRIMARY KEY(a));") command → ⊥
-unfolding on_lines
-null_without_not = refused _ (IsUtf8-from_is_utf8 _ refl) refl
-
-rule_given_twice : (command : CommandData) → Spelled (codes "CREATE TABLE n(a, b NOT NULL NOT NULL, PRIMARY KEY(a));") command → ⊥
-unfolding on_lines
-rule_given_twice = refused _ (IsUtf8-from_is_utf8 _ refl) refl
-
-rule_without_a_comma : (command : CommandData) → Spelled (codes "CREATE TABLE n(a NOT NULL PRIMARY KEY(a));") command → ⊥
-unfolding on_lines
-rule_without_a_comma = refused _ (IsUtf8-from_is_utf8 _ refl) refl
-
-not_as_a_name : (command : CommandData) → Spelled (codes "SELECT * FROM Not;") command → ⊥
-unfolding on_lines
-not_as_a_name = refused _ (IsUtf8-from_is_utf8 _ refl) refl
+no_dot_line_asks = none_asks refl refl
 
 -- ---- lines that ask for nothing
 
