@@ -1,9 +1,6 @@
 -- What changesets do to tables, worked as examples: on the table t of columns a and b, of which a is the key.
-use Rattle.std.proofs.Common.{◌≡◌, ◌≢◌, ℕ, zero, suc, arith, pos, Bool, true, false, true≢false, not, cond, List, [], ◌∷◌, ◌++◌, get_or, map, length, filter_map, All, Option, Some, None, option_map, unwrap_or, codes, refl, sym, ap, ◌∙◌, subst}
-use Rattle.std.specs.List.{cons_option, flat_map, AllPairs}
-use Rattle.std.specs.Char.{encode_utf8}
-use Rattle.std.specs.Str.{chars, is_utf8}
-use Rattle.std.proofs.lemmas.Str.{IsUtf8-from_is_utf8}
+use Rattle.std.proofs.Common.{◌≡◌, ◌≢◌, ℕ, suc, arith, pos, Bool, true, false, true≢false, not, cond, List, [], ◌∷◌, ◌++◌, map, length, filter_map, All, Option, Some, None, option_map, unwrap_or, codes, refl, sym, ap, ◌∙◌, subst}
+use Rattle.std.specs.List.{cons_option, flat_map}
 use Rattle.std.specs.Ordering.{nat_cmp, is_eq}
 use Rattle.std.specs.Cmp.Lexicographic.{slice_cmp, nat_list_cmp_total}
 use Rattle.std.specs.FinMap.{get, insert, empty, get-insert, get-empty}
@@ -12,14 +9,15 @@ use Rattle.cs_value.specs.declared.value.OwnedValue.{OwnedValue}
 use Rattle.cs_value.specs.declared.value.OwnedField.TheVariants.{Undefined, Defined}
 use Rattle.cs_value.specs.declared.value.OwnedValue.TheVariants.{Int, Text, Null}
 use Rattle.cs_value.specs.Spelling.{value_bytes, field_bytes}
-use Rattle.cs_value.specs.State.{SchemaData, IsColumnName, IsSchema, IsRowAt, TableData, State, IsState, schema_at, row_at}
+use Rattle.cs_value.specs.State.{SchemaData, IsRowAt, TableData, State, IsState, schema_at, row_at}
+use Rattle.cs_value.proofs.Examples.{columns_are_schema}
 use Rattle.cs_value.proofs.StateLemmas.{empty_table, table_insert, empty_state, state_insert}
 use Rattle.cs_value.proofs.ByteMaps.{tied_bytes}
 use Rattle.cs_wire_entries.specs.declared.entry.Change.{Change}
 use Rattle.cs_wire_entries.specs.declared.entry.Change.TheVariants.{Insert, Delete, Update}
 use Rattle.cs_wire.specs.Entry.{key_of}
 use Rattle.cs_wire.specs.Changeset.{HeaderData, GroupData}
-use Rattle.cs_wire.proofs.Examples.{one, flags, flags_are, header, header_is, direct, group, one_change, one_change_of, x, y, row, row_is as row_has_values, row_is_keyed, update, idle_update, update_is_changeset}
+use Rattle.cs_wire.proofs.Examples.{one, flags, header, header_is, direct, group, one_change, one_change_of, x, y, row, row_is as row_has_values, row_is_keyed, update, idle_update, update_is_changeset}
 use Rattle.cs_apply_conflicts.specs.declared.judging.Judgement.{Judgement}
 use Rattle.cs_apply_conflicts.specs.declared.judging.Judgement.TheVariants.{Skipped, Wider, Compatible}
 use Rattle.cs_apply_conflicts.specs.declared.conflict.Kind.{Kind}
@@ -339,39 +337,6 @@ update_is_applied choose =
     other table k elsewhere false c t is = refl
 
 -- the first is a state
-a_is_name : IsColumnName (codes "a")
-unfolding encode_utf8 chars is_utf8
-a_is_name = record { some = omega arith; text = IsUtf8-from_is_utf8 (codes "a") refl; short = omega arith }
-
-b_is_name : IsColumnName (codes "b")
-unfolding encode_utf8 chars is_utf8
-b_is_name = record { some = omega arith; text = IsUtf8-from_is_utf8 (codes "b") refl; short = omega arith }
-
-first_byte : List ℕ → ℕ
-first_byte bytes = get_or bytes 0 0
-
-a_is_not_b : codes "a" ≢ codes "b"
-unfolding first_byte
-a_is_not_b e = absurd (omega (arith, ap first_byte e))
-
-names_are_apart : AllPairs ◌≢◌ (codes "a" ∷ codes "b" ∷ [])
-names_are_apart zero zero d lt below = absurd (omega arith)
-names_are_apart zero (suc zero) d lt below = a_is_not_b
-names_are_apart zero (suc (suc j)) d lt below = absurd (omega arith)
-names_are_apart (suc i) zero d lt below = absurd (omega arith)
-names_are_apart (suc i) (suc zero) d lt below = absurd (omega arith)
-names_are_apart (suc i) (suc (suc j)) d lt below = absurd (omega arith)
-
-schema_is_one : IsSchema schema
-schema_is_one = record {
-  flags = flags_are;
-  bits = (omega arith, (omega arith, tt));
-  rules = (refl, tt);
-  as_many = refl;
-  named = (a_is_name, (b_is_name, tt));
-  apart = names_are_apart;
-}
-
 row_stands : IsRowAt schema key row
 unfolding value_bytes
 row_stands = record { values = row_has_values; keyed = row_is_keyed; obeys = refl; own = refl }
@@ -379,7 +344,8 @@ row_stands = record { values = row_has_values; keyed = row_is_keyed; obeys = ref
 state_is_one : IsState (state_of row)
 state_is_one =
     state_insert empty (codes "t") (table_by refuses row) empty_state header_is.name
-    (table_insert (record { schema = schema; rows = empty }) key row (empty_table schema schema_is_one) row_stands)
+    (table_insert (record { schema = schema; rows = empty }) key row (empty_table schema (columns_are_schema false))
+    row_stands)
 
 -- in which the inverse meets no conflict, and from which it makes the first
 update_is_undone : (choose : Choices) → IsClean (state_of later) (one_change (update y x)) × IsApplied (state_of later) (one_change (update y x)) choose (state_of row)

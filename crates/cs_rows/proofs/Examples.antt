@@ -1,9 +1,8 @@
 -- Worked examples: a table of two columns, and a state of two tables.
-use Rattle.std.proofs.Common.{bytes_eq, ◌≡◌, ◌≢◌, ℕ, zero, suc, pos, Bool, true, false, cond, List, [], ◌∷◌, Some, None, unwrap_or, get_or, codes, refl, ap, ◌∙◌, arith}
+use Rattle.std.proofs.Common.{bytes_eq, ◌≡◌, ℕ, pos, Bool, true, false, cond, List, [], ◌∷◌, Some, None, unwrap_or, codes, refl, ap, ◌∙◌, arith}
 use Rattle.std.specs.Char.{encode_utf8}
 use Rattle.std.specs.Str.{chars, is_utf8}
 use Rattle.std.specs.Option.{option_map}
-use Rattle.std.specs.List.{AllPairs}
 use Rattle.std.specs.Ordering.{nat_cmp}
 use Rattle.std.specs.Cmp.Lexicographic.{slice_cmp}
 use Rattle.std.specs.FinMap.{get, insert, empty, get-empty}
@@ -15,6 +14,7 @@ use Rattle.cs_value.specs.Varint.{leading_digits, varint}
 use Rattle.cs_value.specs.Spelling.{counted, value_bytes}
 use Rattle.cs_value.specs.Table.{IsName}
 use Rattle.cs_value.specs.State.{SchemaData, IsColumnName, IsSchema, TableData, RowMap, IsRowAt, IsTable, State, IsState, rows_at}
+pub use Rattle.cs_value.proofs.Examples.{columns_with, columns_are_schema}
 use Rattle.cs_value.proofs.StateLemmas.{empty_table, table_insert, empty_state, state_insert}
 use Rattle.cs_rows.proofs.MapLemmas.{get_put}
 
@@ -29,50 +29,12 @@ spelling = tt
 
 -- ---- columns
 
--- the table of columns a and b with key a; b refuses NULL if it is marked
-abbrev pub columns_with : Bool → SchemaData
-columns_with mark = record { columns = codes "a" ∷ codes "b" ∷ []; flags = 1 ∷ 0 ∷ []; refuses = true ∷ mark ∷ [] }
-
+-- the table of columns a and b with key a; in the second b refuses NULL
 abbrev pub two_columns : SchemaData
 two_columns = columns_with false
 
 abbrev pub refusing_columns : SchemaData
 refusing_columns = columns_with true
-
--- a and b are names, and are two
-a_is_name : IsColumnName (codes "a")
-unfolding encode_utf8 chars is_utf8
-a_is_name = record { some = omega arith; text = IsUtf8-from_is_utf8 (codes "a") refl; short = omega arith }
-
-b_is_name : IsColumnName (codes "b")
-unfolding encode_utf8 chars is_utf8
-b_is_name = record { some = omega arith; text = IsUtf8-from_is_utf8 (codes "b") refl; short = omega arith }
-
-first_byte : List ℕ → ℕ
-first_byte bytes = get_or bytes 0 0
-
-a_is_not_b : codes "a" ≢ codes "b"
-unfolding first_byte
-a_is_not_b e = absurd (omega (arith, ap first_byte e))
-
-names_are_apart : AllPairs ◌≢◌ (codes "a" ∷ codes "b" ∷ [])
-names_are_apart zero zero d lt below = absurd (omega arith)
-names_are_apart zero (suc zero) d lt below = a_is_not_b
-names_are_apart zero (suc (suc j)) d lt below = absurd (omega arith)
-names_are_apart (suc i) zero d lt below = absurd (omega arith)
-names_are_apart (suc i) (suc zero) d lt below = absurd (omega arith)
-names_are_apart (suc i) (suc (suc j)) d lt below = absurd (omega arith)
-
--- the table may be declared
-pub columns_are_schema : (mark : Bool) → IsSchema (columns_with mark)
-columns_are_schema mark = record {
-  flags = record { bytes = (omega arith, (omega arith, tt)); few = omega arith; some_key = (0, 1, omega arith, refl, omega arith) };
-  bits = (omega arith, (omega arith, tt));
-  rules = (refl, tt);
-  as_many = refl;
-  named = (a_is_name, (b_is_name, tt));
-  apart = names_are_apart;
-}
 
 -- ---- two tables
 

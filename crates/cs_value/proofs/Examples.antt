@@ -1,5 +1,6 @@
 -- The definitions of varints, values, rows, keys and faults, computed at some of them.
-use Rattle.std.proofs.Common.{◌≡◌, ℕ, pos, negsuc, true≢false, List, [], ◌∷◌, replicate, codes, refl, inl, inr, arith, unwrap_or, get_or, length, drop, sym, ap, subst, ◌∙◌}
+use Rattle.std.proofs.Common.{◌≡◌, ◌≢◌, ℕ, pos, negsuc, Bool, true, bytes_eq, true≢false, List, [], ◌∷◌, replicate, codes, refl, inl, inr, arith, unwrap_or, get_or, length, drop, sym, ap, subst, ◌∙◌}
+use Rattle.std.specs.List.{AllPairs}
 use Rattle.std.specs.Char.{encode_utf8}
 use Rattle.std.specs.Str.{chars, is_utf8}
 use Rattle.std.proofs.lemmas.List.{nil_from_length}
@@ -16,6 +17,8 @@ use Rattle.cs_value.specs.Spelling.{counted, value_bytes, field_bytes, row_bytes
 use Rattle.cs_value.specs.FieldFaults.{IsCutVarint, HasContent, VarintFails, FieldFails}
 use Rattle.cs_value.specs.ImageFaults.{RecordFails}
 use Rattle.cs_value.specs.Reading.{fault, number_from, number_at}
+use Rattle.cs_value.specs.State.{SchemaData, IsColumnName, IsSchema}
+use Rattle.cs_value.proofs.ListLemmas.{AllPairs-from_recursion}
 use Rattle.cs_value.proofs.VarintLemmas.{number_faults}
 
 computing : Unit {0}
@@ -223,3 +226,36 @@ null_is_image kind place h =
     let none : h.fields ≡ [] = nil_from_length h.fields (omega (arith, h.few)) in
     let start : h.at ≡ 0 = h.begins.count ∙ ap (λ (fields : List OwnedField). length (record_bytes fields)) none in
     null_is_no_fault kind h.behind (subst (λ (n : ℕ). FieldFails (drop n (0x05 ∷ [])) kind h.behind) start h.fails)
+
+-- a table
+
+-- the columns a and b, with the key a; b refuses NULL if it is marked
+abbrev pub columns_with : Bool → SchemaData
+columns_with mark = record { columns = codes "a" ∷ codes "b" ∷ []; flags = 1 ∷ 0 ∷ []; refuses = true ∷ mark ∷ [] }
+
+names_are : IsColumnName (codes "a") × IsColumnName (codes "b")
+unfolding computing
+names_are = (
+  record { some = omega arith; text = IsUtf8-from_is_utf8 (codes "a") refl; short = omega arith },
+  record { some = omega arith; text = IsUtf8-from_is_utf8 (codes "b") refl; short = omega arith },
+)
+
+names_are_apart : AllPairs ◌≢◌ (codes "a" ∷ codes "b" ∷ [])
+names_are_apart =
+    AllPairs-from_recursion ◌≢◌ (codes "a" ∷ codes "b" ∷ [])
+    ((λ same. true≢false (ap (bytes_eq (codes "a")) same), tt), (tt, tt))
+
+-- the table may be declared
+pub columns_are_schema : (mark : Bool) → IsSchema (columns_with mark)
+columns_are_schema mark = record {
+  flags = record {
+    bytes = (omega arith, (omega arith, tt));
+    few = omega arith;
+    some_key = (0, 1, omega arith, refl, omega arith);
+  };
+  bits = (omega arith, (omega arith, tt));
+  rules = (refl, tt);
+  as_many = refl;
+  named = (names_are.0, (names_are.1, tt));
+  apart = names_are_apart;
+}
