@@ -22,26 +22,12 @@ met_insert = record {
   current = Some row;
 }
 
--- which was replaced
-met_is_told : met_text (record { conflict = met_insert; choice = Replace }) ≡ codes "conflict 3 conflict replace 't'\n"
+reports_are_told :
+    (met_text (record { conflict = met_insert; choice = Replace }) ≡ codes "conflict 3 conflict replace 't'\n")
+    × (skip_text (codes "z") ≡ codes "warning 17 skipped 'z'\n")
+    -- a report without an ignored entry does not say so
+    × (ignored_text 1 ≡ codes "ignored 1\n")
+    × (ignored_text 0 ≡ [])
+    × (count_text 0 ≡ codes "applied 0\n")
 unfolding computing met_insert
-met_is_told = refl
-
--- a table was passed over
-skip_is_told : skip_text (codes "z") ≡ codes "warning 17 skipped 'z'\n"
-unfolding computing
-skip_is_told = refl
-
--- one entry was ignored; a report without such an entry does not say so
-one_is_told : ignored_text 1 ≡ codes "ignored 1\n"
-unfolding computing
-one_is_told = refl
-
-none_is_not_told : ignored_text 0 ≡ []
-unfolding computing
-none_is_not_told = refl
-
--- no entry was carried out
-count_is_told : count_text 0 ≡ codes "applied 0\n"
-unfolding computing
-count_is_told = refl
+reports_are_told = (refl, refl, refl, refl, refl)
