@@ -1,6 +1,6 @@
 -- New tables and edits of rows, worked as examples: in a state of a table t, which holds the row (1, 'x'), and an
 -- empty table u.
-use Rattle.std.proofs.Common.{bytes_eq, ◌≡◌, ℕ, ◌<◌, zero, suc, pos, Bool, true, false, cond, List, [], ◌∷◌, Option, Some, None, is_some, not, String, Global, Result, Ok, Err, codes, refl, sym, ap, ◌∙◌, arith}
+use Rattle.std.proofs.Common.{bytes_eq, ◌≡◌, ℕ, ◌<◌, zero, suc, pos, Bool, true, false, cond, List, [], ◌∷◌, Option, Some, None, is_some, String, Global, Result, Ok, Err, codes, refl, sym, ap, ◌∙◌, arith}
 use Rattle.std.specs.Char.{encode_utf8}
 use Rattle.std.specs.Str.{chars, is_utf8}
 use Rattle.std.specs.List.{Any}
@@ -14,12 +14,12 @@ use Rattle.cs_value.specs.declared.value.OwnedValue.TheVariants.{Int, Text, Null
 use Rattle.cs_value.specs.Spelling.{value_bytes}
 use Rattle.cs_value.specs.Table.{IsName}
 use Rattle.cs_value.specs.Maps.{ByBytes}
-use Rattle.cs_value.specs.State.{IsColumnName, TableData, RowMap, State, WrittenData, written_at, row_at, with_rows, with_row, without_row}
+use Rattle.cs_value.specs.State.{IsColumnName, TableData, RowMap, State, WrittenData, row_at, with_rows, with_row, without_row}
 use Rattle.cs_value.proofs.ByteMaps.{same_maps}
 use Rattle.cs_rows.specs.declared.edit.Edit.TheVariants.{Insert, Update, Delete}
 use Rattle.cs_rows.specs.declared.fault.StoreError.{StoreError}
 use Rattle.cs_rows.specs.declared.fault.StoreError.TheVariants.{TableExists, NoTable, BadSchema, KeyTaken, NoRow, RowWidth, NullInKey, NotNull}
-use Rattle.cs_rows.specs.Editing.{Declares, Edited, unless, when, inserted_in, moved, updated_in, deleted_in, found_table, in_table, edited}
+use Rattle.cs_rows.specs.Editing.{Declares, Edited, inserted_in, updated_in, deleted_in, found_table, in_table, edited}
 use Rattle.cs_rows.proofs.MemoryLemmas.{with_rows_found, rows_at_found, row_at_found}
 use Rattle.cs_rows.proofs.MapLemmas.{get_put, get_taken}
 use Rattle.cs_rows.proofs.Examples.{two_columns, refusing_columns, columns_are_schema, one_column, one_column_is_schema, table_t, tables, row, key, held, state, t_is_name, tables_at}
@@ -127,16 +127,13 @@ module _ (table : String Global) (is_t : string_bytes table ≡ codes "t") where
   row_is_inserted : edited state (Insert table two_y) ≡ changed_to two_rows (wrote second_key None ∷ [])
   unfolding value_bytes
   row_is_inserted =
-      in_t held (λ name t. inserted_in state name t two_y)
-      ∙ ap (λ o. unless (when (is_some o) KeyTaken) (Ok (record { state = with_row state (codes "t") second_key two_y; written = wrote second_key o ∷ [] }))) no_second
-      ∙ ap (λ (s : State). Ok (record { state = s; written = wrote second_key None ∷ [] })) (with_row_of_t held second_key two_y)
+      in_t held (λ name t. inserted_in state name t two_y) ∙ rw (no_second, with_row_of_t held second_key two_y)
 
   -- (1, 'z') is not: there is a row with key 1
   taken_key_is_refused : edited state (Insert table (Int (pos 1) ∷ Text (codes "z") ∷ [])) ≡ Err KeyTaken
   unfolding value_bytes
   taken_key_is_refused =
-      in_t held (λ name t. inserted_in state name t (Int (pos 1) ∷ Text (codes "z") ∷ []))
-      ∙ ap (λ o. unless (when (is_some o) KeyTaken) (Ok (record { state = with_row state (codes "t") key (Int (pos 1) ∷ Text (codes "z") ∷ []); written = wrote key o ∷ [] }))) first_stands
+      in_t held (λ name t. inserted_in state name t (Int (pos 1) ∷ Text (codes "z") ∷ [])) ∙ rw first_stands
 
   -- nor is (1), which has one value for two columns
   short_row_is_refused : edited state (Insert table (Int (pos 1) ∷ [])) ≡ Err RowWidth
@@ -151,34 +148,29 @@ module _ (table : String Global) (is_t : string_bytes table ≡ codes "t") where
   unfolding value_bytes
   row_is_updated =
       in_t held (λ name t. updated_in state name t key one_y)
-      ∙ ap (λ o. unless (when (not (is_some o)) NoRow) (Ok (record { state = with_row state (codes "t") key one_y; written = wrote key o ∷ [] }))) first_stands
-      ∙ ap (λ (s : State). Ok (record { state = s; written = wrote key (Some row) ∷ [] })) (with_row_of_t held key one_y ∙ ap tables (put_again empty key row one_y))
+      ∙ rw (first_stands, with_row_of_t held key one_y, put_again empty key row one_y)
 
   -- and (2, 'y'): both keys are written, and no row has the first
   row_is_moved : edited state (Update table key two_y) ≡ changed_to (insert empty second_key two_y) (wrote key (Some row) ∷ wrote second_key None ∷ [])
   unfolding value_bytes
   row_is_moved =
       in_t held (λ name t. updated_in state name t key two_y)
-      ∙ ap (λ o. unless (when (not (is_some o)) NoRow) (moved state (codes "t") key second_key two_y)) first_stands
-      ∙ ap (λ o. unless (when (is_some o) KeyTaken) (Ok (record { state = with_row (without_row state (codes "t") key) (codes "t") second_key two_y; written = written_at state (codes "t") key ∷ wrote second_key o ∷ [] }))) no_second
-      ∙ ap (λ o. Ok (record { state = with_row (without_row state (codes "t") key) (codes "t") second_key two_y; written = wrote key o ∷ wrote second_key None ∷ [] })) first_stands
-      ∙ ap (λ (s : State). Ok (record { state = with_row s (codes "t") second_key two_y; written = wrote key (Some row) ∷ wrote second_key None ∷ [] })) (without_row_of_t held key ∙ ap tables taken_away)
-      ∙ ap (λ (s : State). Ok (record { state = s; written = wrote key (Some row) ∷ wrote second_key None ∷ [] })) (with_row_of_t empty second_key two_y)
+      ∙ rw (first_stands, no_second, without_row_of_t held key, taken_away, with_row_of_t empty second_key two_y)
 
   -- a row does not become one whose key another row has
   taken_key_is_not_updated : edited (tables two_rows) (Update table key two_y) ≡ Err KeyTaken
   unfolding value_bytes
   taken_key_is_not_updated =
-      in_t two_rows (λ name t. updated_in (tables two_rows) name t key two_y)
-      ∙ ap (λ o. unless (when (not (is_some o)) NoRow) (moved (tables two_rows) (codes "t") key second_key two_y)) (row_of_t two_rows key ∙ get_put held second_key two_y key ∙ get_put empty key row key)
-      ∙ ap (λ o. unless (when (is_some o) KeyTaken) (Ok (record { state = with_row (without_row (tables two_rows) (codes "t") key) (codes "t") second_key two_y; written = written_at (tables two_rows) (codes "t") key ∷ wrote second_key o ∷ [] }))) (row_of_t two_rows second_key ∙ get_put held second_key two_y second_key)
+      let first : row_at (tables two_rows) (codes "t") key ≡ Some row =
+      row_of_t two_rows key ∙ get_put held second_key two_y key ∙ get_put empty key row key in
+      let second : row_at (tables two_rows) (codes "t") second_key ≡ Some two_y =
+      row_of_t two_rows second_key ∙ get_put held second_key two_y second_key in
+      in_t two_rows (λ name t. updated_in (tables two_rows) name t key two_y) ∙ rw (first, second)
 
   -- no row with key 2 is updated
   absent_row_is_not_updated : edited state (Update table second_key two_y) ≡ Err NoRow
   unfolding value_bytes
-  absent_row_is_not_updated =
-      in_t held (λ name t. updated_in state name t second_key two_y)
-      ∙ ap (λ o. unless (when (not (is_some o)) NoRow) (Ok (record { state = with_row state (codes "t") second_key two_y; written = wrote second_key o ∷ [] }))) no_second
+  absent_row_is_not_updated = in_t held (λ name t. updated_in state name t second_key two_y) ∙ rw no_second
 
   -- what is wrong with the new row is reported before the missing row
   wrong_row_is_told_first : edited state (Update table second_key (Null ∷ Text (codes "z") ∷ [])) ≡ Err NullInKey
@@ -187,15 +179,11 @@ module _ (table : String Global) (is_t : string_bytes table ≡ codes "t") where
   -- the row with key 1 is deleted: its key is written, and t is empty
   row_is_deleted : edited state (Delete table key) ≡ changed_to empty (wrote key (Some row) ∷ [])
   row_is_deleted =
-      in_t held (λ name t. deleted_in state name key)
-      ∙ ap (λ o. unless (when (not (is_some o)) NoRow) (Ok (record { state = without_row state (codes "t") key; written = wrote key o ∷ [] }))) first_stands
-      ∙ ap (λ (s : State). Ok (record { state = s; written = wrote key (Some row) ∷ [] })) (without_row_of_t held key ∙ ap tables taken_away)
+      in_t held (λ name t. deleted_in state name key) ∙ rw (first_stands, without_row_of_t held key, taken_away)
 
   -- no row with key 2 is deleted
   absent_row_is_not_deleted : edited state (Delete table second_key) ≡ Err NoRow
-  absent_row_is_not_deleted =
-      in_t held (λ name t. deleted_in state name second_key)
-      ∙ ap (λ o. unless (when (not (is_some o)) NoRow) (Ok (record { state = without_row state (codes "t") second_key; written = wrote second_key o ∷ [] }))) no_second
+  absent_row_is_not_deleted = in_t held (λ name t. deleted_in state name second_key) ∙ rw no_second
 
 -- a table w is not there
 no_table_is_refused : (table : String Global) (next : List ℕ → TableData → Result Edited StoreError) → string_bytes table ≡ codes "w" → in_table state (string_bytes table) (next (string_bytes table)) ≡ Err NoTable
