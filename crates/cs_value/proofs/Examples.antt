@@ -14,7 +14,7 @@ use Rattle.cs_value.specs.Value.{IsValue, IsRow}
 use Rattle.cs_value.specs.Key.{key_columns}
 use Rattle.cs_value.specs.Varint.{leading_digits, varint}
 use Rattle.cs_value.specs.Spelling.{counted, value_bytes, field_bytes, row_bytes, record_bytes, BeginsWith}
-use Rattle.cs_value.specs.FieldFaults.{IsCutVarint, HasContent, VarintFails, FieldFails}
+use Rattle.cs_value.specs.FieldFaults.{IsCutVarint, IsCutContent, HasContent, VarintFails, FieldFails}
 use Rattle.cs_value.specs.ImageFaults.{RecordFails}
 use Rattle.cs_value.specs.Reading.{fault, number_from, number_at}
 use Rattle.cs_value.specs.State.{SchemaData, IsColumnName, IsSchema}
@@ -122,41 +122,30 @@ varints_fail = (
 
 -- faults of fields
 
--- there is no byte
 no_field_is_truncated : FieldFails [] Truncated 0
 no_field_is_truncated = (inl refl, refl)
 
--- an integer of two bytes
-short_integer_is_truncated : FieldFails (0x01 ∷ 0x00 ∷ 0x00 ∷ []) Truncated 3
-short_integer_is_truncated = (inr (inl (record { content = 0x00 ∷ 0x00 ∷ []; spelled = refl; fewer = omega arith })), refl)
-
--- a text whose count is cut off
-cut_count_is_truncated : FieldFails (0x03 ∷ 0x81 ∷ []) Truncated 2
-cut_count_is_truncated = (inr (inr (record { content = 0x81 ∷ []; has_content = inl refl; cut = inl cut_is })), refl)
-
--- a blob of two bytes, of which one is there
-short_blob_is_truncated : FieldFails (0x04 ∷ 0x02 ∷ 0xff ∷ []) Truncated 3
+short_blob : IsCutContent (0x02 ∷ 0xff ∷ [])
 unfolding computing
-short_blob_is_truncated = (
-  inr (inr (record {
-    content = 0x02 ∷ 0xff ∷ [];
-    has_content = inr refl;
-    cut = inr (record { count = 2; rest = 0xff ∷ []; is_number = omega arith; spelled = refl; fewer = omega arith });
-  })),
-  refl,
+short_blob = record { count = 2; rest = 0xff ∷ []; is_number = omega arith; spelled = refl; fewer = omega arith }
+
+fields_fail :
+    FieldFails (0x01 ∷ 0x00 ∷ 0x00 ∷ []) Truncated 3  -- an integer of two bytes
+    × FieldFails (0x03 ∷ 0x81 ∷ []) Truncated 2  -- a text whose count is cut off
+    × FieldFails (0x04 ∷ 0x02 ∷ 0xff ∷ []) Truncated 3  -- a blob of two bytes, of which one is there
+    -- a text whose count has a leading zero: the place is that of the count
+    × FieldFails (0x03 ∷ 0x80 ∷ 0x01 ∷ 0x78 ∷ []) BadVarint 1
+    × FieldFails (0x06 ∷ []) BadType 0
+    × FieldFails (0x02 ∷ []) RealValue 0  -- the bytes of reals are not looked at
+unfolding computing
+fields_fail = (
+  (inr (inl (record { content = 0x00 ∷ 0x00 ∷ []; spelled = refl; fewer = omega arith })), refl),
+  (inr (inr (record { content = 0x81 ∷ []; has_content = inl refl; cut = inl cut_is })), refl),
+  (inr (inr (record { content = 0x02 ∷ 0xff ∷ []; has_content = inr refl; cut = inr short_blob })), refl),
+  (record { content = 0x80 ∷ 0x01 ∷ 0x78 ∷ []; has_content = inl refl; no_count = inl refl }, refl),
+  (record { kind = 6; rest = []; spelled = refl; no_type = omega arith }, refl),
+  (refl, refl),
 )
-
--- a text whose count has a leading zero: the place is that of the count
-bad_count_is_bad : FieldFails (0x03 ∷ 0x80 ∷ 0x01 ∷ 0x78 ∷ []) BadVarint 1
-bad_count_is_bad = (record { content = 0x80 ∷ 0x01 ∷ 0x78 ∷ []; has_content = inl refl; no_count = inl refl }, refl)
-
--- the type 06, which is none
-type_six_is_bad : FieldFails (0x06 ∷ []) BadType 0
-type_six_is_bad = (record { kind = 6; rest = []; spelled = refl; no_type = omega arith }, refl)
-
--- the type 02 of reals, whose bytes are not looked at
-real_is_refused : FieldFails (0x02 ∷ []) RealValue 0
-real_is_refused = (refl, refl)
 
 -- a text of the byte ff: the place is that of the text
 ff_is_bad_text : FieldFails (0x03 ∷ 0x01 ∷ 0xff ∷ []) BadText 2
