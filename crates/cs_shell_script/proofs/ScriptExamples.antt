@@ -9,17 +9,15 @@ use Rattle.std.specs.FinMap.{empty}
 use Rattle.std.proofs.lemmas.Bool.{or_parts, eqb-false}
 use Rattle.std.specs.Fmt.{digits}
 use Rattle.std.proofs.KnownBytes.{Appends-nil}
-use Rattle.std.proofs.lemmas.Str.{IsUtf8-from_is_utf8}
 use Rattle.hex.specs.Hex.{encode_with, encode_lower}
 use Rattle.cs_wire_entries.specs.declared.entry.Change.TheVariants.{Insert}
 use Rattle.cs_wire_entries.specs.declared.fault.ReadFaultKind.TheVariants.{EmptyGroup}
 use Rattle.cs_wire.proofs.Examples.{one_change, row, delete_file}
-use Rattle.cs_shell_grammar.specs.Commands.{Hex}
 use Rattle.cs_shell_replies.specs.ErrorLines.{refusal_text}
 use Rattle.cs_shell_replies.specs.Replies.{Reply, Silent, Text as Printed, Dumped, Refused, reply_text, replies_text}
 use Rattle.cs_shell_script.specs.ShellState.{ShellState}
 use Rattle.cs_shell_script.specs.StoreRuns.{beginning}
-use Rattle.cs_shell_script.specs.LineAnswers.{on_slots, LineGives, answered}
+use Rattle.cs_shell_script.specs.LineAnswers.{LineGives}
 use Rattle.cs_shell_script.specs.Runs.{HasNoFeed, AnswersAll, RunsInput}
 use Rattle.cs_value.specs.Quoting.{doubled}
 use Rattle.cs_files.specs.Texts.{literal, separated, field_text, header_text, entry_text, group_text}
@@ -27,7 +25,7 @@ use Rattle.cs_shell_script.specs.declared.script.Status.TheVariants.{Done}
 use Rattle.cs_file_texts.specs.declared.told.Told.{Told}
 use Rattle.cs_shell_replies.specs.declared.refusal.Refusal.TheVariants.{Read, Syntax, EmptySlot}
 use Rattle.cs_shell_script.proofs.Examples.{hex_line, hex_line_asks, invert_line, load_line, a_filled, both_filled, with_slots}
-use Rattle.cs_shell_script.proofs.Examples.{empty_slot_is_refused, load_line_gives, invert_line_gives, hex_line_gives}
+use Rattle.cs_shell_script.proofs.Examples.{slots_give, empty_slot_is_refused, load_line_gives, invert_line_gives, hex_line_gives}
 
 computing : Unit {0}
 unfolding encode_utf8 chars is_utf8
@@ -39,26 +37,15 @@ printing = tt
 
 -- printed texts
 
--- the reply to a line that names an empty slot
-empty_slot_reply_is_printed : reply_text (Refused EmptySlot) ≡ codes "error 62 EmptySlot\n"
-unfolding reply_text refusal_text digits
-empty_slot_reply_is_printed = refl
-
--- the line of a header of 6 bytes without a change behind it
-fault_is_printed : refusal_text (Read (record { kind = EmptyGroup; place = 6 })) ≡ codes "error 9 EmptyGroup 6\n"
-unfolding refusal_text digits
-fault_is_printed = refl
-
--- that of a line which is malformed at its 24th byte
-syntax_is_printed : refusal_text (Syntax (record { column = 24 })) ≡ codes "error 61 Syntax 24\n"
-unfolding refusal_text digits
-syntax_is_printed = refl
-
--- the text of the insertion of (1, 'x')
-dump_is_printed : reply_text (Dumped (one_change (Insert row)))
-    ≡ codes "table 't' columns 2 flags 1,0\ninsert 0 new 1,'x'\n"
-unfolding printing
-dump_is_printed = refl
+-- the reply to a line that names an empty slot, the lines of a header of 6 bytes without a change behind it and of a
+-- line that is malformed at its 24th byte, and the text of the insertion of (1, 'x')
+texts_are_printed :
+    (reply_text (Refused EmptySlot) ≡ codes "error 62 EmptySlot\n")
+    × (refusal_text (Read (record { kind = EmptyGroup; place = 6 })) ≡ codes "error 9 EmptyGroup 6\n")
+    × (refusal_text (Syntax (record { column = 24 })) ≡ codes "error 61 Syntax 24\n")
+    × (reply_text (Dumped (one_change (Insert row))) ≡ codes "table 't' columns 2 flags 1,0\ninsert 0 new 1,'x'\n")
+unfolding reply_text refusal_text digits printing
+texts_are_printed = (refl, refl, refl, refl)
 
 -- scripts
 
@@ -100,12 +87,7 @@ script_is_refused = record {
     no_feed = tt;
     no_feed_last = no_feed_in hex_line refl;
   };
-  given =
-      let text = IsUtf8-from_is_utf8 hex_line refl in (
-        with_slots empty,
-        answered (with_slots empty) hex_line (Hex (codes "b")) (Refused EmptySlot) (with_slots empty) text hex_line_asks (on_slots (Hex (codes "b")) (Refused EmptySlot) empty empty_slot_is_refused),
-        refl,
-      );
+  given = (with_slots empty, slots_give hex_line refl hex_line_asks empty_slot_is_refused, refl);
 }
 
 -- an empty script is answered with nothing
