@@ -1,17 +1,19 @@
 //! Calls of a session in a transaction that goes on.
-ghost use Rattle.std.specs.Prelude.{◌≡◌, [], false, map, OnOk, OnErr, IfOk, IfErr};
+ghost use Rattle.std.specs.Prelude.{◌≡◌, ◌⊎◌, [], false, map, OnOk, OnErr, IfOk, IfErr, MatchResult};
 ghost use Rattle.std.specs.Fn.{FnReturnsAt};
 ghost use Rattle.sqlite.specs.State.{HasCleanDisk};
 ghost use Rattle.sqlite.specs.Held.{state};
+ghost use Rattle.cs_value.specs.State.{State};
 ghost use Rattle.cs_rows.specs.Editing.{EditsInto, IsWriteOf};
 ghost use Rattle.cs_store.specs.Failing.{BatchFails, Writes};
 ghost use Rattle.cs_store.specs.Store.{tables_in};
 ghost use Rattle.cs_store.specs.Within.{Within};
 ghost use Rattle.cs_apply_conflicts.specs.declared.conflict.Noop.TheVariants.{Report as Reported};
 ghost use Rattle.cs_apply_rows.specs.declared.running.Direction.TheVariants.{Forward as ForwardRun, Inverse as InverseRun};
-ghost use Rattle.cs_apply_rows.specs.Running.{AlwaysAborts};
+ghost use Rattle.cs_apply_rows.specs.Running.{AlwaysAborts, Leads};
 ghost use Rattle.cs_apply_rows.specs.Writes.{IsFileWrite};
 ghost use Rattle.cs_apply.specs.Crash.{AppliesInto};
+ghost use Rattle.cs_session_notes.specs.declared.fault.SessionFault.TheVariants.{WrongStore as NoSuchStore};
 ghost use Rattle.cs_session_notes.specs.Changes.{HasTables, IsCaused, IsChangesRefusal, IsResource, IsRowsRefusal, RefusesChanges};
 ghost use Rattle.cs_session_notes.specs.FirstImages.{IsNotes, rewound, recorded_changes};
 ghost use Rattle.cs_session_notes.specs.Views.{attached_of, kept_of};
@@ -24,7 +26,7 @@ use crate::session::Session;
 use cs_apply::{Choice, Conflict, Direction, Noop, Report};
 use cs_session_notes::{AttachedTables, SessionFault, net_changeset};
 use cs_store::{Edit, Transaction};
-use cs_wire::Changeset;
+use cs_wire::{Changeset, changeset_files_law};
 use sqlite::Alter;
 use std::alloc::Global;
 
@@ -135,6 +137,10 @@ impl Session {
             RecordsApply AlwaysAborts Reported file.now InverseRun
             (tables_in (state S.Store transaction.old).now) self.old report
             (tables_in (state S.Store transaction.new).now) self.new) }
+        ensures reverts { HasCleanDisk (state S.Store transaction.new) → (before : State)
+            → Leads file.now before (tables_in (state S.Store transaction.old).now)
+            → MatchResult result (λ report. (report.conflicts.items ≡ [])
+            × (tables_in (state S.Store transaction.new).now ≡ before)) (λ e. (e ≡ NoSuchStore) ⊎ IsResource e) }
         ensures rewound { HasCleanDisk (state S.Store transaction.new) → OnOk result
             (rewound self.new (tables_in (state S.Store transaction.new).now)
             ≡ rewound self.old (tables_in (state S.Store transaction.old).now)) }
@@ -151,6 +157,7 @@ impl Session {
             (tables_in (state S.Store transaction.old).now)) IsRowsRefusal
             (state S.Store transaction.old) (state S.Store transaction.new) result }
     {
+        changeset_files_law();
         let (direction, noop) = (Direction::Inverse, Noop::Report);
         let abort = |_: &Conflict| Choice::Abort;
         let result = apply_call(

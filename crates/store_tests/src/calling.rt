@@ -165,7 +165,8 @@ fn records_a_transaction(rt: HostRuntime) {
     assert!(rt; file.expect(&rt, "no refusal") == INSERT);
     let reverted = session.revert_in_transaction(rt.alloc(), &mut transaction, INSERT);
     assert!(rt; reverted.expect(&rt, "no refusal").written.len() == 1);
-    assert!(rt; record(rt.alloc(), &mut transaction, &mut session, &[]).expect(&rt, "no refusal").is_empty());
+    let rest = record(rt.alloc(), &mut transaction, &mut session, &[]);
+    assert!(rt; rest.expect(&rt, "no refusal").is_empty());
     end(transaction.roll_back());
 }
 

@@ -12,7 +12,7 @@ use Rattle.cs_session_notes.specs.Changes.{IsRowsRefusal}
 use Rattle.cs_session_notes.specs.FirstImages.{Notes}
 use Rattle.cs_session_notes.specs.Views.{attached_of}
 use Rattle.cs_session.specs.Recording.{RecordsApply}
-use Rattle.cs_session.proofs.RecordLemmas.{applied_rewound, records_weaker, refuses_recorded_weaker}
+use Rattle.cs_session.proofs.RecordLemmas.{applied_rewound, recorded_reverts, records_weaker, refuses_recorded_weaker}
 use Rattle.cs_session.proofs.SettleLemmas.{are_notes, if_notes, same_notes}
 use Rattle.cs_session.proofs.session.Session.revert_in_transaction.Goals as goal
 
@@ -48,6 +48,10 @@ returns-clause-refused g c clean =
 pub returns-clause-rewound : goal.returns-clause-rewound
 returns-clause-rewound g c clean =
     applied_rewound c.apply_call-result.result AlwaysAborts Reported c.args.file.now Inverse _ c.args.self.now _ _ (returns-clause-recorded g c clean)
+
+pub returns-clause-reverts : goal.returns-clause-reverts
+returns-clause-reverts g c clean before leads =
+    recorded_reverts c.apply_call-result.result c.changeset_files_law.ensures c.args.file.now before _ _ c.args.self.now _ leads (returns-clause-recorded g c clean) (returns-clause-refused g c clean) c.apply_call-result.ensures.named
 
 pub returns-clause-within : goal.returns-clause-within
 returns-clause-within g c =
