@@ -162,7 +162,7 @@ fn records_a_transaction(rt: HostRuntime) {
     };
     let edits = [edit_of(&rt, Call::Insert("t", &[Value::Int(1), Value::Text("x")]))];
     let file = record(rt.alloc(), &mut transaction, &mut session, &edits);
-    assert!(rt; file.expect(&rt, "no refusal") == INSERT);
+    assert!(rt; file.expect(&rt, "no refusal").as_slice() == INSERT);
     let reverted = session.revert_in_transaction(rt.alloc(), &mut transaction, INSERT);
     assert!(rt; reverted.expect(&rt, "no refusal").written.len() == 1);
     let rest = record(rt.alloc(), &mut transaction, &mut session, &[]);
