@@ -1,4 +1,4 @@
--- What changesets do to tables, worked as examples: on the table t of columns a and b, of which a is the key.
+-- What changesets do to tables, in examples: on the table t of columns a and b, with the key a.
 use Rattle.std.proofs.Common.{◌≡◌, ◌≢◌, ℕ, suc, arith, pos, Bool, true, false, true≢false, not, cond, List, [], ◌∷◌, ◌++◌, map, length, filter_map, All, Option, Some, None, option_map, unwrap_or, codes, refl, sym, ap, ◌∙◌, subst}
 use Rattle.std.specs.List.{cons_option, flat_map}
 use Rattle.std.specs.Ordering.{nat_cmp, is_eq}
@@ -89,7 +89,7 @@ update_meets : (choose : Kind → Choice) →
     × (row_after flags idle_update (Some row) ≡ Some row)
 update_meets choose = (refl, refl, refl, refl, refl, refl, refl, refl)
 
--- where another value stands, or no row, an update meets a conflict
+-- if the row has another value, or there is no row, an update has a conflict
 other_update_meets :
     (meets (update x y) (Some apart) ≡ Some Data)
     × (leaves (update x y) (Some apart) (always Replace) ≡ Some (Some later))
@@ -117,7 +117,7 @@ insert_meets choose = (refl, refl, refl, refl, refl, refl)
 
 delete_meets : (choose : Kind → Choice) →
     (leaves (Delete row) (Some row) choose ≡ Some None)
-    -- where no row stands there is nothing to replace
+    -- if there is no row, there is nothing to replace
     × (meets (Delete row) None ≡ Some NotFound)
     × (leaves (Delete row) None (always Replace) ≡ None)
     × (leaves (Delete row) None (always Omit) ≡ Some None)
@@ -142,7 +142,7 @@ replace_row Conflict = Replace
 replace_row Data = Replace
 replace_row NotFound = Omit
 
--- an insert of (1, NULL) where no row stands breaks that rule, and meets nothing in t, where b may be NULL
+-- an insert of (1, NULL) without a row breaks that rule; in t, where b may be NULL, it has no conflict
 null_insert_meets :
     (meets_all (Insert null_row) None (always Replace) ≡ Constraint ∷ [])
     × (meets (Insert null_row) None ≡ None)
@@ -150,7 +150,7 @@ null_insert_meets :
     × (leaves_all (Insert null_row) None (always Omit) ≡ Some None)
     × (leaves_all (Insert null_row) None (always Replace) ≡ None)
     × (leaves_all (Insert null_row) None (always Abort) ≡ None)
-    -- where (1, 'x') stands it meets that row, and in its place breaks the rule
+    -- if (1, 'x') is there, it conflicts with that row, and in its place breaks the rule
     × (meets_all (Insert null_row) (Some row) (always Omit) ≡ Conflict ∷ [])
     × (meets_all (Insert null_row) (Some row) (always Replace) ≡ Conflict ∷ Constraint ∷ [])
     -- the choices for the two need not be one: where the second is passed over (1, 'x') stays
@@ -176,11 +176,11 @@ deletes_break_none rules old = refl
 
 -- ---- changes that change nothing
 
--- a change is idle in t
+-- a change is a no-op in t
 abbrev idles : Change → Option (List OwnedValue) → Bool
 idles change row = is_idle (is_refused refuses flags change) flags change row
 
--- an insert is idle at the row that it inserts, a delete where no row stands, and an update at the row that it makes
+-- an insert is a no-op at the row that it inserts, a delete without a row, and an update at the row that it makes
 idle_changes :
     (idles (Insert row) (Some row) ≡ true)
     × (idles (Insert row) (Some apart) ≡ false)
@@ -216,7 +216,7 @@ tables_are_judged = (refl, refl, refl, refl, refl, refl, λ mark. refl)
 abbrev key : List ℕ
 key = 0x01 ∷ 0 ∷ 0 ∷ 0 ∷ 0 ∷ 0 ∷ 0 ∷ 0 ∷ 1 ∷ []
 
--- the columns of t, t with this row alone, under the key 1, and the state of that table alone, where these columns
+-- the columns of t, t with only this row, under the key 1, and the state with only that table, where these columns
 -- refuse NULL
 abbrev schema_by : List Bool → SchemaData
 schema_by rules = record { columns = codes "a" ∷ codes "b" ∷ []; flags = flags; refuses = rules }
@@ -351,7 +351,7 @@ state_is_one =
 update_is_undone : (choose : Choices) → IsClean (state_of later) (one_change (update y x)) × IsApplied (state_of later) (one_change (update y x)) choose (state_of row)
 update_is_undone choose = applied_reverts (state_of row) (one_change (update x y)) (one_change (update y x)) omit_all choose (state_of later) state_is_one update_is_changeset update_and_back update_is_clean (update_is_applied omit_all)
 
--- the key 1 is told as written, with the row that stood there
+-- the key 1 is reported as written, with the previous row
 update_tells_former : (choose : Choices) → written (state_of row) (one_change (update x y)) choose ≡ record { table = codes "t"; key = key; former = Some row } ∷ []
 unfolding value_bytes field_bytes
 update_tells_former choose =
@@ -408,7 +408,7 @@ ignored_writes_none choose = ap (filter_map (written_for (state_of later) choose
 abbrev header_a : HeaderData
 header_a = record { name = codes "t"; flags = 1 ∷ [] }
 
--- changes of the column a alone find the table wider
+-- changes of only the column a find the table wider
 a_alone_is_wider : FirstWider (state_of row) (one_change_of header_a (Insert (Int (pos 1) ∷ []))) 0
 a_alone_is_wider = record {
   within = omega arith;
@@ -429,7 +429,7 @@ group_z = record { header = header_z; entries = direct (Insert row) ∷ [] }
 z_is_skipped : judged (state_of row) group_z ≡ Skipped
 z_is_skipped = ap (λ (o : Option SchemaData). judgement flags (option_map (λ s. s.flags) o)) (schema_is refuses row (codes "z"))
 
--- its name is told
+-- its name is reported
 z_is_told : skipped (state_of row) (one_change_of header_z (Insert row)) ≡ codes "z" ∷ []
 z_is_told = ap (λ (j : Judgement). map (λ g. g.header.name) (cond (is_skipped j) (group_z ∷ []) [])) z_is_skipped
 
@@ -453,6 +453,6 @@ joined_first :
     × (meets (Insert later) (row_after flags (Insert row) None) ≡ Some Conflict)
 joined_first = (refl, refl)
 
--- and then leaves another row than both, the second in place of what stood there
+-- and then leaves another row than both, the second in place of the previous one
 joined_leaves_other : leaves (Insert later) (row_after flags (Insert row) None) (always Replace) ≢ Some (row_after flags (Insert row) None)
 joined_leaves_other = λ e. true≢false (sym (ap (λ (o : Option (Option (List OwnedValue))). has_values (unwrap_or (unwrap_or o None) []) (map Defined row)) e))

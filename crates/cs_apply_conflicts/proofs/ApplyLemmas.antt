@@ -66,7 +66,7 @@ same_state : (state other : State) → ((table : List ℕ) → schema_at state t
     → ((table key : List ℕ) → row_at state table key ≡ row_at other table key) → state ≡ other
 same_state state other schemas rows = same_maps state other (λ table. same_table (get state table) (get other table) (schemas table) (rows table))
 
--- ---- one state alone
+-- ---- one state only
 
 pub applied_once : AppliedOnce
 applied_once noop old changeset choose new other p q =
@@ -77,7 +77,7 @@ applied_once noop old changeset choose new other p q =
     let all = All-from_recursion (λ p. IsElsewhere p table key) ps elsewhere in
     p.others table key all ∙ sym (q.others table key all)))
 
--- ---- what is told of written keys
+-- ---- what is reported of written keys
 
 module _ (old new : State) (choose : Choices) where
   -- of the keys of these entries
@@ -193,7 +193,7 @@ module _ (old new : State) (schemas : (table : List ℕ) → schema_at new table
       at true others = ((each.0, others.0), (h.0, others.1))
       at false others = others
 
--- where none of the entries meets a conflict, none is told
+-- if no entry has a conflict, none is reported
 pub none_met : (state : State) (choose : Choices) (ps : List PlacedEntry) → AllByRecursion (λ p. placed_kind state p ≡ None) ps → flat_map (met_at state choose) ps ≡ []
 none_met state choose [] h = refl
 none_met state choose (p ∷ ps) h = rw (h.0) (none_met state choose ps h.1)

@@ -34,7 +34,7 @@ filled_row [] row = refl
 filled_row (value ∷ new) [] = ap (λ (l : List OwnedValue). value ∷ l) (filled_row new [])
 filled_row (value ∷ new) (v ∷ row) = ap (λ (l : List OwnedValue). value ∷ l) (filled_row new row)
 
--- what stands in a column, if there is such a column
+-- the value of a column, if there is such a column
 abbrev pub Stands : List OwnedValue → ℕ → Option OwnedValue → Type 0
 Stands row i None = length row ≤ i
 Stands row i (Some v) = (i < length row) × (v ≡ get_or row i v)
@@ -124,7 +124,7 @@ all_values (value ∷ row) (o ∷ other) e =
     let others = all_values row other both.1 in
     cc (first, others)
 
--- what an update leaves has the values that it says, and fills what the update found to the row that stood there
+-- what an update leaves has the values that it says, and the other values of the row that it found
 pub update_undone : (flags : List ℕ) (old new : List OwnedField) (row : List OwnedValue) → IsKeyedUpdate flags old new → has_values row old ≡ true
     → (has_values (filled (with_key flags old new) row) (with_key flags old new) ≡ true) × (filled old (filled (with_key flags old new) row) ≡ row)
 update_undone [] [] [] [] fits e = (refl, refl)
@@ -211,7 +211,7 @@ left_fits flags (Delete old) row fits keyed found = tt
 left_fits flags (Update old new) None fits keyed found = absurd (found refl)
 left_fits flags (Update old new) (Some row) fits keyed found = update_fits flags old new row fits.2 keyed
 
--- the row behind a reference
+-- the row that a reference points to
 pub keyed_now : (flags : List ℕ) (row : Option (Bor (List OwnedValue))) → IfSome row (λ r. IsKeyedRow flags r.now) → IfSome (option_map (λ r. r.now) row) (IsKeyedRow flags)
 keyed_now flags None keyed = tt
 keyed_now flags (Some row) keyed = keyed

@@ -44,7 +44,7 @@ ColumnLeads (suc flag) Undefined a v w = ⊥
 ColumnLeads (suc flag) (Defined x) Undefined v w = ⊥
 ColumnLeads (suc flag) (Defined x) (Defined y) v w = (x ≡ v) × (y ≡ v) × (v ≡ w)
 
--- and so does what two such pairs say together, of which the second leads on
+-- and so does what two such pairs say together, if the second leads on
 over_leads : (flag : ℕ) (b a c d : OwnedField) (u v w : OwnedValue) → ColumnLeads flag b a u v → ColumnLeads flag c d v w → ColumnLeads flag (over b c) (over d a) u w
 over_leads zero Undefined Undefined Undefined Undefined u v w h k = h ∙ k
 over_leads zero Undefined Undefined (Defined x) (Defined y) u v w h k = (k.0 ∙ sym h, k.1)
@@ -89,7 +89,7 @@ has_more : (b : OwnedField) (v : OwnedValue) (row : List OwnedValue) (image : Li
 has_more Undefined v row image h e = e
 has_more (Defined x) v row image h e = rw (h, same_itself (Defined v)) e
 
--- the field leads to this value from the one that stands there
+-- the field leads to this value from the current one
 abbrev Gives : OwnedField → OwnedValue → OwnedValue → Type 0
 Gives Undefined v w = v ≡ w
 Gives (Defined y) v w = y ≡ w

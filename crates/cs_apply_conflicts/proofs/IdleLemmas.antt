@@ -1,4 +1,4 @@
--- Entries that are idle, and those of them that are ignored.
+-- Entries that are no-ops, and those of them that are ignored.
 use Rattle.std.proofs.Common.{◌≡◌, ◌≢◌, ◌↔◌, ℕ, zero, suc, Bool, true, false, true≢false, cond, not, ◌&&◌, if◌then◌else◌, List, [], ◌∷◌, ◌++◌, map, filter, Option, Some, None, refl, sym, ap, ◌∙◌, arith}
 use Rattle.std.specs.Prelude.{is_some}
 use Rattle.std.specs.List.{AllByRecursion}
@@ -30,9 +30,9 @@ use Rattle.cs_group.proofs.ImageLemmas.{same_itself}
 use Rattle.cs_apply_conflicts.proofs.ConflictLemmas.{and_false, has_its_values, all_values}
 use Rattle.cs_apply_conflicts.proofs.RuleLemmas.{image_obeys}
 
--- ---- which changes are idle
+-- ---- which changes are no-ops
 
--- none is that leaves what does not stand there
+-- a change that leaves another row is none
 not_idle : (b : Bool) → (b && false) ≡ true → ⊥
 not_idle b e = true≢false (sym e ∙ and_false b)
 
@@ -142,7 +142,7 @@ applicable_apart state changeset is =
 -- ---- the rows of entries that are ignored
 
 module _ (state : State) where
-  -- of the entries that are not idle
+  -- of the entries that are not no-ops
   abbrev Others : List PlacedEntry → List PlacedEntry
   Others ps = filter (λ q. not (is_idle_at state q)) ps
 

@@ -33,7 +33,7 @@ module _ (flags key : List ℕ) (before mid after : Option (List OwnedValue)) wh
   abbrev IsOf : Entry → Type 0
   IsOf e = IsEntry flags e × (entry_key flags e ≡ key)
 
-  -- what two entries make together does what both do in turn, and so does one alone
+  -- what two entries make together does what both do in turn, and so does a single one
   entries_lead : (first second : Option Entry) → IfSome first IsOf → IfSome second IsOf
       → LeftLeads flags before mid first → LeftLeads flags mid after second → LeftLeads flags before after (joined_found (joined_entry flags) first second)
   entries_lead None None p q one two = one ∙ two
@@ -85,7 +85,7 @@ module _ (old mid new : State) (schemas : (table : List ℕ) → schema_at mid t
         at false skipped = led.passed skipped
     some_leads header (e ∷ entries) led = led
 
-    -- a group of the second alone
+    -- a group of only the second
     second_leads : (h : GroupData) → ((key : List ℕ) → row_at old name key ≡ row_at mid name key) → GroupLeads mid new name h → GroupLeads old new name h
     second_leads h one two =
         let alike : judged mid h ≡ judged old h = judged_alike name h h two.named two.named refl in
@@ -96,7 +96,7 @@ module _ (old mid new : State) (schemas : (table : List ℕ) → schema_at mid t
           passed = λ skipped key. one key ∙ two.passed (ap is_compatible alike ∙ skipped) key;
         }
 
-    -- a group of the first alone
+    -- a group of only the first
     first_leads : (g : GroupData) → GroupLeads old mid name g → ((key : List ℕ) → row_at mid name key ≡ row_at new name key) → GroupLeads old new name g
     first_leads g one two = record {
       named = one.named;

@@ -180,7 +180,7 @@ net_row_change_same f g (Some before) (Some after) e =
 net_entry_same : (f g : List ℕ) (before after : Option (List OwnedValue)) → key_marks f ≡ key_marks g → net_entry f before after ≡ net_entry g before after
 net_entry_same f g before after e = ap as_entry (net_row_change_same f g before after e)
 
--- and a row that stands under a key, if there is one, does so too
+-- and the row under a key, if there is one, does so too
 rows_same : (f g key : List ℕ) (row : Option (List OwnedValue)) → key_marks f ≡ key_marks g → IfSome row (IsRowUnder f key) → IfSome row (IsRowUnder g key)
 rows_same f g key None e is = tt
 rows_same f g key (Some row) e is = row_under_same f g key row e is

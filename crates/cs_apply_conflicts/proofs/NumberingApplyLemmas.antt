@@ -139,7 +139,7 @@ module _ (old new : State) (choose : Choices) (ps : List PlacedEntry) where
         is.others table key (all_unnumbered (λ p. IsElsewhere p table key) (λ p. IsElsewhere p table key) (elsewhere_back table key) ps each);
   }
 
--- the entries of which a choice is asked
+-- the entries for which a choice is asked
 heeded_of_numbered : (noop : Noop) (state : State) (ps : List PlacedEntry) → heeded_of noop state (map numbered_entry ps) ≡ map numbered_entry (heeded_of noop state ps)
 heeded_of_numbered Report state ps = refl
 heeded_of_numbered Ignore state [] = refl

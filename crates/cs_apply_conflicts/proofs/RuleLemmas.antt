@@ -26,7 +26,7 @@ use Rattle.cs_group.proofs.ImageLemmas.{same_values, length-with_key}
 
 -- ---- a column
 
--- NULL is in a column that refuses it, or behind it
+-- NULL is in a column that refuses it, or in a later one
 has_null_first : (mark : Bool) (refuses : List Bool) (field : OwnedField) (fields : List OwnedField)
     → has_null (mark ∷ refuses) (field ∷ fields) ≡ ((mark && has_null (true ∷ []) (field ∷ [])) || has_null refuses fields)
 has_null_first false refuses Undefined fields = refl
@@ -53,7 +53,7 @@ or_true : (b : Bool) → (b || true) ≡ true
 or_true true = refl
 or_true false = refl
 
--- where there is no NULL, neither is there one in the first column nor behind it
+-- if there is no NULL, there is none in the first column nor in a later one
 null_parts : (mark : Bool) (refuses : List Bool) (field : OwnedField) (fields : List OwnedField) → has_null (mark ∷ refuses) (field ∷ fields) ≡ false
     → ((mark && has_null (true ∷ []) (field ∷ [])) ≡ false) × (has_null refuses fields ≡ false)
 null_parts mark refuses field fields e = or_false _ _ (sym (has_null_first mark refuses field fields) ∙ e)
@@ -138,7 +138,7 @@ found_kept refuses flags (Update old new) None fits e obeys = tt
 found_kept refuses flags (Update old new) (Some row) fits e obeys =
     ((length-IsKeyedUpdate flags old new fits.2).0 ∙ sym (same_width row old (no_data (has_values row old) e)), obeys)
 
--- and so does one that is keyed, behind a reference
+-- and so does one that is keyed, seen through a reference
 pub keyed_kept : (refuses : List Bool) (flags : List ℕ) (row : Option (Bor (List OwnedValue))) → IfSome row (λ r. IsKeyedRow flags r.now × Obeys refuses r.now)
     → IfSome (option_map (λ r. r.now) row) (IsKept refuses flags)
 keyed_kept refuses flags None kept = tt
@@ -164,7 +164,7 @@ left_disobeys refuses flags (Update old new) (Some row) fits found broken stood 
     let widths = length-IsKeyedUpdate flags old new fits.2 in
     λ obeys. true≢false (sym (filled_breaks refuses (with_key flags old new) row (length-with_key flags old new widths.0 widths.1 ∙ stood) broken) ∙ obeys)
 
--- and a row behind a reference has a value for each flag
+-- and a row seen through a reference has a value for each flag
 pub keyed_wide : (flags : List ℕ) (row : Option (Bor (List OwnedValue))) → IfSome row (λ r. IsKeyedRow flags r.now) → IfSome (option_map (λ r. r.now) row) (λ r. length flags ≡ length r)
 keyed_wide flags None keyed = tt
 keyed_wide flags (Some row) keyed = length-IsKeyedRow flags row.now keyed

@@ -78,7 +78,7 @@ module _ (state : State) (P : PlacedEntry → Type 0) where
 
 -- ---- what a changeset does that is applied without a conflict
 
--- an entry leads from the row with its key to the one that stands there afterwards
+-- an entry leads from the row with its key to the row afterwards
 abbrev pub EntryLeads : State → State → PlacedEntry → Type 0
 EntryLeads old new p = LeadsFrom p.flags p.entry.change (current old p) (current new p)
 

@@ -74,7 +74,7 @@ NoneWider state changeset = All (λ g. judged state g ≢ Wider) changeset
 abbrev pub compatible_groups : State → List GroupData → List GroupData
 compatible_groups state changeset = filter (λ g. is_compatible (judged state g)) changeset
 
--- the entries of the tables that are compatible, which alone are applied
+-- the entries of the compatible tables, the only ones that are applied
 abbrev pub applicable : State → List GroupData → List PlacedEntry
 applicable state changeset = placed (compatible_groups state changeset)
 
@@ -111,7 +111,7 @@ pub record ConflictData : Type 0 where
   pub entry : Entry
   pub current : Option (List OwnedValue)
 
--- what is met by an entry, if it meets a conflict
+-- the conflict of an entry, if it has one
 abbrev pub placed_kind : State → PlacedEntry → Option Kind
 placed_kind state p = conflict_kind (refused_at state p) p.entry.change (current state p)
 
@@ -148,7 +148,7 @@ met_with refused p row choose =
 abbrev pub met_at : State → Choices → PlacedEntry → List MetData
 met_at state choose p = met_with (refused_at state p) p (current state p) (choose p)
 
--- the conflicts that a changeset meets and of which a choice is asked, with the choices, in the order of the file
+-- the conflicts of a changeset for which a choice is asked, with the choices, in the order of the file
 abbrev pub met_under : Noop → State → List GroupData → Choices → List MetData
 met_under noop state changeset choose = flat_map (met_at state choose) (heeded noop state changeset)
 
@@ -158,7 +158,7 @@ abbrev pub written_for : State → Choices → PlacedEntry → Option WrittenDat
 written_for state choose p =
     if is_carried_out (placed_kinds state choose p) (choose p) then Some (written_at state p.table (placed_key p)) else None
 
--- the keys of the entries that are carried out, in the order of the file, with the rows that stood there
+-- the keys of the entries that are carried out, in the order of the file, with the previous rows
 abbrev pub written_under : Noop → State → List GroupData → Choices → List WrittenData
 written_under noop state changeset choose = filter_map (written_for state choose) (heeded noop state changeset)
 
@@ -187,6 +187,6 @@ IsAppliedUnder noop old changeset choose new = AreApplied old (heeded noop old c
 abbrev pub IsApplied : State → List GroupData → Choices → State → Type 0
 IsApplied = IsAppliedUnder Report
 
--- what is chosen does not matter where no conflict is met
+-- the choices do not matter if there is no conflict
 abbrev pub omit_all : Choices
 omit_all p kind = Omit

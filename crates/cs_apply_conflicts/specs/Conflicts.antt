@@ -48,7 +48,7 @@ kind_between (Some image) (Some row) = if has_values row image then None else So
 abbrev pub is_refused : List Bool → List ℕ → Change → Bool
 is_refused refuses flags change = unwrap_or (option_map (has_null refuses) (after_image flags change)) false
 
--- what is met first: by the row there, and else by the rule of a column
+-- the first conflict: with the row there, or otherwise with the rule of a column
 abbrev pub or_constraint : Bool → Option Kind → Option Kind
 or_constraint refused (Some kind) = Some kind
 or_constraint true None = Some Constraint
@@ -84,7 +84,7 @@ filled (Undefined ∷ image) (value ∷ row) = value ∷ filled image row
 filled (Defined v ∷ image) [] = v ∷ filled image []
 filled (Defined v ∷ image) (value ∷ row) = v ∷ filled image row
 
--- what a change that is carried out leaves of a row: none, or what it says, filled from what stood there
+-- what a change that is carried out leaves of a row: none, or what it says, with the other values of the previous row
 abbrev pub row_after : List ℕ → Change → Option (List OwnedValue) → Option (List OwnedValue)
 row_after flags change row = option_map (λ image. filled image (unwrap_or row [])) (after_image flags change)
 
@@ -107,7 +107,7 @@ ends Conflict Replace = false
 ends NotFound Replace = true
 ends Constraint Replace = true
 
--- behind a conflict that is overcome the rule of a column is met, where the change is refused
+-- after a conflict that is overcome, the change is refused if it breaks the rule of a column
 abbrev pub kinds_from : Bool → (Kind → Choice) → Option Kind → List Kind
 kinds_from refused choose None = []
 kinds_from refused choose (Some kind) =

@@ -15,7 +15,7 @@ use Rattle.cs_apply_conflicts.specs.Conflicts.{has_values, is_refused, is_idle}
 use Rattle.cs_apply_conflicts.specs.Applying.{Choices, IsClean, IsApplied, IsAppliedUnder, applicable, current}
 use Rattle.cs_apply_conflicts.specs.Applying.{ignored_of, written_under}
 
--- a changeset with these choices makes one state alone
+-- a changeset with these choices makes exactly one state
 abbrev pub AppliedOnce : Type 0
 AppliedOnce = (noop : Noop) (old : State) (changeset : List GroupData) (choose : Choices) (new other : State)
     → IsAppliedUnder noop old changeset choose new → IsAppliedUnder noop old changeset choose other → new ≡ other
@@ -27,7 +27,7 @@ AppliedReverts = (old : State) (changeset inverse : List GroupData) (choose agai
     → IsState old → IsChangeset changeset → IsInverse changeset inverse → IsClean old changeset
     → IsApplied old changeset choose new → IsClean new inverse × IsApplied new inverse again old
 
--- a row that was written stood there before as it was told, and each other row stood there as it does now
+-- a written row was there before as reported, and each other row was there as it is now
 pub record TellsFormer (old new : State) (written : List WrittenData) : Type 0 where
   pub told : All (λ w. row_at old w.table w.key ≡ w.former) written
   pub others : (table key : List ℕ) → All (λ w. ¬ ((w.table ≡ table) × (w.key ≡ key))) written

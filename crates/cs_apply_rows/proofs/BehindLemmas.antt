@@ -273,7 +273,7 @@ module _ (s : State) (closed : List GroupData) (h : HeaderData) (es : List Entry
         by none (Some ending) goes_on came =
             rw (applicable_grown, heeded_more run.noop s (applicable s here) added) (stops_more chooses (heeded run.noop s here) s is.start (heeded_of run.noop s added) run.tally (last_of ending) came)
 
-    -- it is carried out, or does not stand in the way, or ends the run
+    -- it is carried out, or has no conflict, or ends the run
     pub behind_taken : (next : Run) (b : State) (seen : FlaggedEntry) → TakesEntries run → IsNewEntry closed h es e → seen.flags ≡ h.flags → seen.entry ≡ e
         → next.table ≡ run.table → next.judgement ≡ run.judgement → next.refuses ≡ run.refuses → next.tables ≡ run.tables → next.wider ≡ run.wider → next.noop ≡ run.noop → next.tally.skipped ≡ run.tally.skipped
         → ComesTo chooses run.noop (placed_in_table (rc_str_bytes run.table) seen) a run.tally b next.tally next.ended → IsBehind chooses s grown next b
@@ -301,7 +301,7 @@ module _ (s : State) (closed : List GroupData) (h : HeaderData) (es : List Entry
         one_added : added ≡ placed_by h e ∷ []
         one_added = let compatible : its_judgement ≡ Compatible = sym is_open.1 ∙ takes.compatible in rw compatible refl
 
-        -- its row is as before the run, so that it is idle where it was
+        -- its row is as before the run, so it is a no-op if it was one
         apart : Apart (heeded run.noop s here) (placed_by h e ∷ [])
         apart = heeded_before run.noop s (applicable s here) (placed_by h e ∷ []) (apart_grown new)
 

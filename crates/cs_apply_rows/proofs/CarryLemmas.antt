@@ -97,7 +97,7 @@ module _ (chooses : Handler) (s : State) (p : PlacedEntry) (row : Option (List O
         written = λ reported was. subst (Tallies t.written) {x = reported} (rw passed (sym (append-nil reported))) (rw written was);
       }
 
-  -- an entry that is ignored tells nothing
+  -- an entry that is ignored reports nothing
   pub carries_ignored : (next : State) → next ≡ s → t.conflicts.items ≡ r.conflicts.items → t.written ≡ r.written → Carries chooses [] s r next t
   carries_ignored next same conflicts written = record {
     choose = omit_all;

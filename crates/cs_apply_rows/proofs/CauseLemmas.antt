@@ -1,4 +1,4 @@
--- For which causes a run fails, and of which writes that is.
+-- For which causes a run fails, and which writes those are.
 use Rattle.std.proofs.Common.{◌≡◌, inl, inr, false, ℕ, ◌<◌, List, ◌∷◌, ◌++◌, length, length-append, get_or, map, Option, Some, None, Result, Ok, Err, IfErr, IsErrAnd, refl, sym, ap, subst, ◌∙◌, arith}
 use Rattle.std.specs.Prelude.{Any}
 use Rattle.std.proofs.lemmas.List.{length-map}

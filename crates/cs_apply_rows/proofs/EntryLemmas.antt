@@ -51,7 +51,7 @@ pub kept_here : (state : State) (header : HeaderData) (key : List ℕ) (row : Op
 kept_here state header key None has fits = tt
 kept_here state header key (Some row) has fits = (keyed_as state header key row.now has fits, obeys_as state header.name key row.now fits)
 
--- and what fits the flags, and obeys the rules, may stand in the table
+-- and a row that fits the flags and obeys the rules may be in the table
 pub fits_here : (state : State) (header : HeaderData) (key : List ℕ) (row : List OwnedValue) → HasTable state header → IsRow row → IsKeyedRow header.flags row → key ≡ row_key header.flags row
     → Obeys (refuses_at state header.name) row → Fits state header.name key row
 fits_here state header key row has values keyed own obeys =
@@ -150,11 +150,11 @@ in_turn first second NotFound = first
 in_turn first second KeyConflict = first
 
 module _ (chooses : Handler) (refused : Bool) (p : PlacedEntry) (row : Option (List OwnedValue)) (kind : Kind) (met : conflict_kind refused p.entry.change row ≡ Some kind) where
-  -- it meets that alone where it is not refused, or that is not overcome
+  -- it has only that conflict if it is not refused, or that is not overcome
   met_one : (choose : Kind → Choice) → (refused && is_overcome kind (choose kind)) ≡ false → kinds_met refused p.entry.change row choose ≡ kind ∷ []
   met_one choose only = ap (kinds_from refused choose) met ∙ rw only refl
 
-  -- and else the rule of a column behind it
+  -- and otherwise the rule of a later column
   met_two : (choose : Kind → Choice) → refused ≡ true → is_overcome kind (choose kind) ≡ true → kinds_met refused p.entry.change row choose ≡ kind ∷ Constraint ∷ []
   met_two choose is_refused overcome = ap (kinds_from refused choose) met ∙ rw (is_refused, overcome) refl
 
@@ -198,7 +198,7 @@ module _ (chooses : Handler) (refused : Bool) (p : PlacedEntry) (row : Option (L
           ended = ended;
         }
 
-    -- what comes of it, where nothing else is met
+    -- what comes of it, if there is no other conflict
     pub settled_first : (next : List Met) (settled : Settled) → AnswersAs chooses (conflict_with p row kind) conflicts next settled → (settled ≡ Carried → refused ≡ false)
         → SettlesAs chooses refused p row conflicts next settled
     settled_first next Carried h kept = settled_one next h.0 true h.1 h.2 (rw (kept refl) refl)
@@ -220,7 +220,7 @@ module _ (chooses : Handler) (refused : Bool) (p : PlacedEntry) (row : Option (L
           by KeyConflict e = refl
           by Constraint e = absurd (true≢false (sym e ∙ never_overcome m.choice))
 
-      -- the two that are met
+      -- the two conflicts
       both_met : (n : Met) → conflict_of n.conflict ≡ conflict_with p row Constraint → met_with refused p row (in_turn m.choice n.choice) ≡ met_of m ∷ met_of n ∷ []
       both_met n is =
           let choose = in_turn m.choice n.choice in

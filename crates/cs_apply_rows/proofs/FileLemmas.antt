@@ -18,7 +18,7 @@ use Rattle.cs_apply_rows.proofs.DirectedLemmas.{directed_entries, directed_more,
 
 -- ---- the entries of a table
 
--- of the entries that were left these were carried out, which take a run behind tables of other names further
+-- of the entries that were left these were carried out, which take a run past tables of other names further
 pub record RunsEntries (chooses : Handler) (d : Direction) (h : HeaderData) (now : TablesData) (start run : Run) (honest : Type 0) (first after : State) (entries : List Entry) (others : List GroupData) : Type 0 where
   pub done : List Entry
   pub passed : PassedEntries done now entries others
@@ -55,7 +55,7 @@ module _ (chooses : Handler) (d : Direction) (h : HeaderData) (now : TablesData)
 
 -- ---- the tables of a file
 
--- of the tables of a file these are behind the run
+-- the run is past these tables of a file
 pub record RunsTables (chooses : Handler) (d : Direction) (file : List ℕ) (now : TablesData) (run : Run) (honest was_honest : Type 0) (before after : State) : Type 0 where
   pub groups : List GroupData
   pub is_file : IsFileOf file groups

@@ -13,7 +13,7 @@ use Rattle.cs_apply_rows.specs.Steps.{is_ignored}
 use Rattle.cs_apply_conflicts.specs.Applying.{PlacedEntry, placed_key, current, refused_at, IsElsewhere, is_idle_at, heeded_of, ignored_of}
 use Rattle.cs_apply_rows.proofs.StepLemmas.{Apart}
 
--- ---- one entry behind others
+-- ---- one entry after others
 
 pub heeded_more : (noop : Noop) (s : State) (ps qs : List PlacedEntry) → heeded_of noop s (ps ++ qs) ≡ heeded_of noop s ps ++ heeded_of noop s qs
 heeded_more Reported s ps qs = refl

@@ -121,7 +121,7 @@ module _ (ps qs : List PlacedEntry) (a b : State) (first second : Choices) (apar
       ∙ ap (λ (l : List Y). filter_map (λ p. f (refused_at a p) p (current a p) (both p)) ps ++ l) two
       ∙ sym (filter_map-append (λ p. f (refused_at a p) p (current a p) (both p)) ps qs)
 
-  -- and so are conflicts, of which one entry may meet several
+  -- and so are conflicts; one entry may have several
   all_by_row : {Y : Type 0} (f : Bool → PlacedEntry → Option (List OwnedValue) → (Kind → Choice) → List Y)
       → flat_map (λ p. f (refused_at a p) p (current a p) (first p)) ps ++ flat_map (λ q. f (refused_at b q) q (current b q) (second q)) qs ≡ flat_map (λ p. f (refused_at a p) p (current a p) (both p)) (ps ++ qs)
   all_by_row {Y} f =
@@ -213,7 +213,7 @@ module _ (chooses : Handler) where
 -- ---- a run that ends
 
 module _ (chooses : Handler) (ps : List PlacedEntry) (a : State) (r : Tally) where
-  -- entries behind the end of the run
+  -- entries after the end of the run
   pub stops_more : (qs : List PlacedEntry) (t : Tally) (last : Met) → Stops chooses ps a r t last → Stops chooses (ps ++ qs) a r t last
   stops_more qs t last ended = record {
     choose = ended.choose;

@@ -1,4 +1,4 @@
--- What a run tells, as contracts see it.
+-- What a run reports, as contracts see it.
 use Rattle.std.specs.Prelude.{string_bytes}
 use Rattle.cs_apply_conflicts.specs.declared.conflict.Kind.{Kind}
 use Rattle.cs_apply_conflicts.specs.declared.conflict.Kind.TheVariants as kind

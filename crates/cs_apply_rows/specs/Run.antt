@@ -1,4 +1,4 @@
--- How a run stands behind the items so far. No public contract names this: what it is for is said by Running.
+-- Where a run is after the items so far. No public contract names this: Running says what it is for.
 use Rattle.std.specs.Prelude.{◌≡◌, ◌≢◌, ◌+◌, ℕ, suc, List, [], ◌∷◌, ◌++◌, length, map, if◌then◌else◌, Option, None, Some, IfSome, option_map, Result, Ok, Err, string_bytes}
 use Rattle.std.specs.List.{AllByRecursion}
 use Rattle.std.specs.Rc.{rc_str_bytes}
@@ -34,7 +34,7 @@ abbrev pub directed_entry : Direction → List ℕ → Entry → Entry
 directed_entry Forward flags entry = entry
 directed_entry Inverse flags entry = inverse_entry flags entry
 
--- the entries of a table, of which there may be none yet
+-- the entries of a table, none yet at the start
 abbrev pub group_of : HeaderData → List Entry → GroupData
 group_of header entries = record { header = header; entries = entries }
 
@@ -79,7 +79,7 @@ HasOpen before groups run =
     IfSome (last_group groups) (λ g. (rc_str_bytes run.table ≡ g.header.name) × (run.judgement ≡ judged before g)
     × (run.refuses.items ≡ refuses_at before g.header.name))
 
--- so a run stands behind these groups: entries are judged only where no table is wider
+-- so a run is past these groups: entries are judged only if no table is wider
 pub record IsBehind (chooses : Handler) (before : State) (groups : List GroupData) (run : Run) (after : State) : Type 0 where
   pub start : Tally
   pub empty : IsEmpty start
@@ -124,7 +124,7 @@ pub record IsNewEntry (closed : List GroupData) (header : HeaderData) (entries :
   pub table : AllByRecursion (λ g. g.header.name ≢ header.name) closed
   pub key : AllByRecursion (λ d. key_of header.flags d.change ≢ key_of header.flags entry.change) entries
 
--- what a run comes to behind the last item
+-- what a run comes to after the last item
 abbrev pub outcome_of : Option ℕ → Option Halt → Tally → Result Tally ApplyFault
 outcome_of (Some place) ended tally = Err (Wider place)
 outcome_of None (Some ending) tally = Err (refusal_of ending)

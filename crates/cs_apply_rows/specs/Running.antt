@@ -93,7 +93,7 @@ pub record AppliesCounted (chooses : Handler) (noop : Noop) (file : List ℕ) (d
       (map string_bytes summary.skipped.items) writes summary.ignored new
 
 -- the conflict is one that a changeset meets under some choices, and this is the choice for it; for each conflict
--- before it the handler chose what stands there, and the run went on
+-- before it the handler chose these choices, and the run went on
 pub record IsReached (chooses : Handler) (noop : Noop) (old : State) (changeset : List GroupData) (last : Met) : Type 0 where
   pub choose : Choices
   pub earlier : List Met

@@ -92,7 +92,7 @@ pub record IsReported (chooses : Handler) (conflict : ConflictData) (conflicts n
   pub goes_on : GoesOn chooses m
   pub grown : next ≡ conflicts ++ m ∷ []
 
--- what comes of a conflict of which the handler was asked: it is overcome, or the entry is passed over, or the run ends
+-- what comes of a conflict that the handler was asked about: it is overcome, the entry is passed over, or the run ends
 abbrev pub AnswersAs : Handler → ConflictData → List Met → List Met → Settled → Type 0
 AnswersAs chooses conflict conflicts next Carried =
     (m : Met) × IsReported chooses conflict conflicts next m × (is_overcome m.conflict.kind m.choice ≡ true)
@@ -140,7 +140,7 @@ SettlesAs chooses refused p row conflicts next Passed = Settles chooses refused 
 SettlesAs chooses refused p row conflicts next Ignored = next ≡ conflicts
 SettlesAs chooses refused p row conflicts next (Ended ending) = EndsAtEntry chooses refused p row conflicts next (last_of ending)
 
--- the entry is idle at this row, or none, and that is to be ignored
+-- the entry is a no-op at this row, or without a row, and is to be ignored
 abbrev pub is_ignored : Noop → Bool → List ℕ → Change → Option (List OwnedValue) → Bool
 is_ignored noop.Report refused flags change row = false
 is_ignored noop.Ignore refused flags change row = is_idle refused flags change row
@@ -152,7 +152,7 @@ is_left_out Passed = false
 is_left_out Ignored = true
 is_left_out (Ended ending) = false
 
--- the row stands at the key, or none does
+-- the row is under the key, or none is
 abbrev pub with_result : State → List ℕ → List ℕ → Option (List OwnedValue) → State
 with_result state table key None = without_row state table key
 with_result state table key (Some row) = with_row state table key row

@@ -145,7 +145,7 @@ module _ (file : List ℕ) (groups : List GroupData) (place : ℕ) (span : Chang
             ∙ append_assoc (header_bytes header) (entry_bytes change.entry) (drop to file),
       )
 
-  -- behind an open table, where an entry is to be
+  -- after an open table, at the start of an entry
   pub no_entry_read : (last : ShowsLast file groups span) → HasEntry file place → NoEntry file last.last.header place → AreAll file groups
   no_entry_read last here none change after to (inl adds) begins =
       let same = (same_from_push last.closed adds.closed last.last (group_of change.header adds.entries) (sym last.groups_are ∙ adds.before_is)).1 in
@@ -184,7 +184,7 @@ bare_none file place start header stands only none other entry rest is_header is
 
 -- ---- a header
 
--- one header alone is at a place, and ends at one place
+-- exactly one header is at an offset, and ends at one offset
 pub same_end : (file : List ℕ) (place a b : ℕ) (found header : HeaderData) → place ≤ length file → Stands file place (header_bytes found) a
     → ((other : HeaderData) (rest : List ℕ) → IsHeader other → drop place file ≡ header_bytes other ++ rest → found ≡ other) → IsHeader header → Stands file place (header_bytes header) b → a ≡ b
 same_end file place a b found header within one only is two =

@@ -122,7 +122,7 @@ between_of file all left place span is_file (inr so) none = in_table_done file a
 
 -- ---- a table is opened
 
--- the name and the flags of a header where it stands
+-- the name and the flags of a header at its offset
 pub ShowsTable-header : (file : List ℕ) (place end : ℕ) (header : HeaderData) (span : ChangeSpan) → Stands file place (header_bytes header) end → place ≤ length file
     → span.name ≡ end - 1 - length header.name → span.name_length ≡ length header.name → span.flags ≡ span.name - length header.flags → span.columns ≡ length header.flags → ShowsTable file span header
 unfolding header_bytes flags_bytes
@@ -158,7 +158,7 @@ header_length file place end header stands le =
     omega (arith, Stands-length file place end _ stands le, length-append (count ++ header.flags) (header.name ++ 0 ∷ []), length-append count header.flags, length-append header.name (0 ∷ []))
 
 module _ (file : List ℕ) (all : List GroupData) (left : List TableChange) (place : ℕ) (is_file : IsFileOf file all) (so : IsBetween all left place) (within : place < length file) where
-  -- a header stands there, and is read
+  -- a header is there, and is read
   pub table_next : (group : GroupData) × (others : List GroupData) × (so.others ≡ group ∷ others) × IsGroup group × (drop place file ≡ header_bytes group.header ++ (entries_bytes group.entries ++ file_bytes others))
       × AllByRecursion IsGroup others
   table_next = table_left (at_place file place []) so.others (between_left file all left place is_file so) within
@@ -202,7 +202,7 @@ opened_has_entry file all left place is_file so within header end stands only no
 
 -- ---- a change is passed
 
--- the records of an entry, behind its first two bytes
+-- the records of an entry, after its first two bytes
 pub records_stand : (file : List ℕ) (place end : ℕ) (entry : Entry) → Stands file place (entry_bytes entry) end → place ≤ length file
     → Stands file (place + 2) (record_bytes (fields_of entry.change)) (place + 2 + (end - (place + 2)))
 unfolding entry_bytes
@@ -270,7 +270,7 @@ module _ (file : List ℕ) (all : List GroupData) (left : List TableChange) (pla
         });
       }
 
--- behind the start of the file a table is open
+-- after the start of the file a table is open
 pub in_table_of : (file : List ℕ) (all : List GroupData) (left : List TableChange) (place : ℕ) (span : ChangeSpan) → ChangesLeft file all left place span → 0 < place → IsInTable file all left place span
 in_table_of file all left place span (inl start) some = absurd (omega (arith, start.place_is))
 in_table_of file all left place span (inr so) some = so

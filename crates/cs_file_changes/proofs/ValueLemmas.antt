@@ -41,7 +41,7 @@ next_field fields i rest lt =
     ap (λ (fs : List OwnedField). record_bytes fs ++ rest) (drop_more fields i Undefined lt)
     ∙ append_assoc (field_bytes (get_or fields i Undefined)) (record_bytes (drop (i + 1) fields)) rest
 
--- a text or a blob, behind its type and its count
+-- a text or a blob, after its type and its count
 content_stands : (file : List ℕ) (place end kind : ℕ) (content : List ℕ) → Stands file place (kind ∷ counted content) end → place ≤ length file
     → Stands file (end - length content) content (end - length content + length content)
 unfolding counted

@@ -38,7 +38,7 @@ AreAll file groups =
     (change : TableChange) (after : List GroupData) (place : ℕ) → AddsChange groups change after
     → ReadsAs file after place → ⊥
 
--- the span shows the last table, of which there is one
+-- the span shows the last table, and there is one
 pub record ShowsLast (file : List ℕ) (groups : List GroupData) (span : ChangeSpan) : Type 0 where
   pub closed : List GroupData
   pub last : GroupData

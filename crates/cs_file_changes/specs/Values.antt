@@ -39,7 +39,7 @@ abbrev pub field_on : Side → Change → ℕ → Option OwnedField
 field_on Old change column = old_field change column
 field_on New change column = new_field change column
 
--- a value is returned of which P holds
+-- a value is returned, and P holds for it
 abbrev pub IsAnswered : Result (Option ValueSpan) ReadFault → (ValueSpan → Type 0) → Type 0
 IsAnswered (Ok (Some value)) P = P value
 IsAnswered (Ok None) P = ⊥

@@ -1,4 +1,4 @@
--- Texts that are told apart by numbers.
+-- Texts that are distinguished by numbers.
 use Rattle.std.proofs.Common.{◌≡◌, ◌≢◌, ℕ, List, map, AllPairs, sym, ap, ◌∙◌, arith}
 use Rattle.std.specs.List.Sorted.{IsPermutation, IsStrictlyIncreasing}
 use Rattle.std.proofs.Math.Dec.{eqb}

@@ -9,7 +9,7 @@ use Rattle.cs_file_tables.specs.Distinct.{number_of}
 use Rattle.cs_file_tables.specs.Named.{NamedTable}
 use Rattle.cs_wire.specs.ReadFaults.{Stands}
 
--- entries stand there up to a place, and these are the numbers of their keys
+-- there are entries up to a place, and these are the numbers of their keys
 pub record HasEntries (file : List ℕ) (at : ℕ) (flags keys : List ℕ) (end : ℕ) : Type 0 where
   pub entries : List Entry
   pub each : All (IsEntry flags) entries
@@ -22,7 +22,7 @@ pub record VisitsEntries (text : Entry → List ℕ) (old new : List ℕ) (file 
   pub has : HasEntries file at flags keys end
   pub written : new ≡ old ++ flat_map text has.entries
 
--- an entry stands there, this is the number of its key, and this was appended for it
+-- an entry is there, this is the number of its key, and this was appended for it
 pub record VisitsEntry (text : Entry → List ℕ) (old new : List ℕ) (file : List ℕ) (at : ℕ) (flags : List ℕ)
     (number end : ℕ) : Type 0 where
   pub entry : Entry
@@ -51,7 +51,7 @@ pub record VisitsDistinct (text : Entry → List ℕ) (old new : List ℕ) (file
 abbrev pub group_of : NamedTable → List Entry → GroupData
 group_of table entries = record { header = table.header; entries = entries }
 
--- the group of this table stands there up to a place
+-- the group of this table is there up to a place
 pub record HasTable (file : List ℕ) (at : ℕ) (table : NamedTable) (end : ℕ) : Type 0 where
   pub entries : List Entry
   pub is_group : IsGroup (group_of table entries)

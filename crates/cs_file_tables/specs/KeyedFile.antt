@@ -36,7 +36,7 @@ with_entry keyed number end = record {
 abbrev pub key_number : List ℕ → Entry → ℕ
 key_number flags entry = number_of (key_of flags entry.change)
 
--- these are the entries, behind which these groups are left
+-- these are the entries, after which these groups are left
 pub record AreKeyed (keyed : KeyedFile) (entries : List Entry) (groups : List GroupData) : Type 0 where
   pub left : (index : ℕ) → index ≤ length entries → EntriesLeft (entries_from keyed index) (drop index entries) groups
   pub numbers : keyed.chains.numbers ≡ map (key_number keyed.flags) entries

@@ -32,12 +32,12 @@ header_at named index = (get_or named.tables index no_table).header
 abbrev pub tables_at : NamedData → ℕ → TablesData
 tables_at named index = tables_from named.file (get_or named.tables index no_table)
 
--- a table is that of the group, whose entries begin there, and these groups are behind it
+-- a table is that of the group, whose entries begin there, and these groups come after it
 pub record IsTableOf (file : List ℕ) (table : NamedTable) (group : GroupData) (others : List GroupData) : Type 0 where
   pub header : table.header ≡ group.header
   pub are_left : EntriesLeft (tables_from file table) group.entries others
 
--- the tables are those of the groups, and these groups are behind them
+-- the tables are those of the groups, and these groups come after them
 unfoldable pub AreTablesOf : List ℕ → List NamedTable → List GroupData → List GroupData → Type 0
 AreTablesOf file [] [] behind = Unit {0}
 AreTablesOf file (table ∷ tables) (group ∷ groups) behind =

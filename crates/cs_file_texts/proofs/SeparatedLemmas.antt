@@ -6,12 +6,12 @@ use Rattle.std.proofs.lemmas.Grind.{flat_map-append}
 use Rattle.cs_value.proofs.ListLemmas.{map_split}
 use Rattle.cs_file_texts.specs.Texts.{separated}
 
--- what stands before a piece behind these
+-- what comes before a piece after these
 abbrev pub lead_of : List ℕ → List (List ℕ) → List ℕ
 lead_of between [] = []
 lead_of between (piece ∷ pieces) = between
 
--- pieces behind others
+-- pieces after others
 abbrev pub behind : List ℕ → List (List ℕ) → List ℕ
 behind between pieces = flat_map (λ piece. between ++ piece) pieces
 
@@ -22,7 +22,7 @@ separated-first between piece (next ∷ pieces) =
     ap (λ l. (piece ++ between) ++ l) (separated-first between next pieces) ∙ append_assoc piece between (next ++ behind between pieces)
     ∙ ap (λ l. piece ++ l) (sym (append_assoc between next (behind between pieces)))
 
--- a piece, those before it and those behind it
+-- a piece, those before it and those after it
 pub separated-at : (between : List ℕ) (before : List (List ℕ)) (piece : List ℕ) (after : List (List ℕ))
     → separated between (before ++ piece ∷ after) ≡ separated between before ++ ((lead_of between before ++ piece) ++ behind between after)
 unfolding separated
@@ -37,12 +37,12 @@ pub separated-more : (between : List ℕ) (before : List (List ℕ)) (piece : Li
     → separated between (before ++ piece ∷ []) ≡ separated between before ++ (lead_of between before ++ piece)
 separated-more between before piece = separated-at between before piece [] ∙ ap (λ l. separated between before ++ l) (append-nil (lead_of between before ++ piece))
 
--- a piece behind others leaves between for the next
+-- a piece after others leaves the separator for the next
 pub lead_of-more : (between : List ℕ) (before : List (List ℕ)) (piece : List ℕ) → lead_of between (before ++ piece ∷ []) ≡ between
 lead_of-more between [] piece = refl
 lead_of-more between (first ∷ before) piece = refl
 
--- one element more of a list of texts, behind what leads to it
+-- one element more of a list of texts, after what leads to it
 pub separated_step : {X : Type 0} (between : List ℕ) (f : X → List ℕ) (xs : List X) (i : ℕ) (e : X) (lead : List ℕ) → i < length xs → e ≡ get_or xs i e
     → lead ≡ lead_of between (map f (take i xs)) → separated between (map f (take (i + 1) xs)) ≡ separated between (map f (take i xs)) ++ (lead ++ f e)
 separated_step between f xs i e lead within is leads =
@@ -61,11 +61,11 @@ separated_rest between f xs i e lead within is leads =
     ∙ ap (λ d. separated between before ++ ((lead_of between before ++ f d) ++ after)) (sym is)
     ∙ ap (λ l. separated between before ++ ((l ++ f e) ++ after)) (sym leads)
 
--- what leads to the element behind one
+-- what leads to the next element
 pub lead_step : {X : Type 0} (between : List ℕ) (f : X → List ℕ) (xs : List X) (i : ℕ) (e : X) → i < length xs → between ≡ lead_of between (map f (take (i + 1) xs))
 lead_step between f xs i e within = sym (ap (lead_of between) (map_more f xs i e within) ∙ lead_of-more between (map f (take i xs)) (f (get_or xs i e)))
 
--- elements that come one after another: those before, one, and those behind it
+-- elements that come one after another: those before, one, and those after it
 module _ {X : Type 0} (between : List ℕ) (f : X → List ℕ) (before : List X) (e : X) (lead : List ℕ) (leads : lead ≡ lead_of between (map f before)) where
   -- the text with one more
   pub separated_push : separated between (map f (before ++ e ∷ [])) ≡ separated between (map f before) ++ (lead ++ f e)
@@ -81,7 +81,7 @@ module _ {X : Type 0} (between : List ℕ) (f : X → List ℕ) (before : List X
       ∙ separated-at between (map f before) (f e) (map f after)
       ∙ ap (λ l. separated between (map f before) ++ ((l ++ f e) ++ behind between (map f after))) (sym leads)
 
--- what leads to the element behind one
+-- what leads to the next element
 pub lead_push : {X : Type 0} (between : List ℕ) (f : X → List ℕ) (before : List X) (e : X) → between ≡ lead_of between (map f (before ++ e ∷ []))
 lead_push between f before e = sym (ap (lead_of between) (map-append f before (e ∷ [])) ∙ lead_of-more between (map f before) (f e))
 

@@ -9,7 +9,7 @@ use Rattle.cs_file_texts.specs.Pieces.{is_defined, terms_text}
 use Rattle.cs_file_texts.specs.declared.texts.sql.Terms.TheVariants.{Assignments}
 use Rattle.cs_file_texts.proofs.SeparatedLemmas.{lead_of, behind, separated-at, separated-more, lead_of-more}
 
--- what is made of fields, and of those behind them
+-- what is made of fields, and of the later ones
 by_index-append : (f : ℕ → OwnedValue → List ℕ) (p : ℕ) (xs ys : List OwnedField) → by_index f p (xs ++ ys) ≡ by_index f p xs ++ by_index f (p + length xs) ys
 by_index-append f p [] ys = ap (λ n. by_index f n ys) (sym (add-zero p))
 by_index-append f p (Undefined ∷ xs) ys =
@@ -21,7 +21,7 @@ by_index-append f p (Defined v ∷ xs) ys =
 by_index-at : (f : ℕ → OwnedValue → List ℕ) (i : ℕ) (xs ys : List OwnedField) → length xs ≡ i → by_index f 0 (xs ++ ys) ≡ by_index f 0 xs ++ by_index f i ys
 by_index-at f i xs ys is = by_index-append f 0 xs ys ∙ ap (λ n. by_index f 0 xs ++ by_index f n ys) (let h : 0 + length xs ≡ i = omega arith in h)
 
--- the fields before one, which stands in this column
+-- the fields before the one in this column
 module _ (f : ℕ → OwnedValue → List ℕ) (between : List ℕ) (before : List OwnedField) (i : ℕ) (counted : length before ≡ i) where
   -- a column without a value adds nothing
   by_place_undefined : by_index f 0 (before ++ Undefined ∷ []) ≡ by_index f 0 before
@@ -87,7 +87,7 @@ assignments_some old new some =
     let parts = by_place_some assignment 0 new some in
     ap (assignments old) parts.2 ∙ ap (separated (codes ", ")) (sym parts.2)
 
--- where none is, those of the key, behind nothing
+-- if there is none, those of the key, after nothing
 pub assignments_none : (old new : List OwnedField) → list_any is_defined new ≡ false
     → assignments old (by_index assignment 0 new) ≡ terms_text Assignments new ++ terms_text Assignments old
 unfolding separated

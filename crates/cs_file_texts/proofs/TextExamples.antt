@@ -1,4 +1,4 @@
--- The readable texts of changesets, on a table `t` of two columns, of which the first is the key.
+-- The readable texts of changesets, on a table `t` of two columns, with the first as its key.
 use Rattle.std.proofs.Common.{◌≡◌, negsuc, true, false, List, [], ◌∷◌, ◌++◌, codes, refl}
 use Rattle.std.specs.Fmt.{digits}
 use Rattle.hex.specs.Hex.{encode_with}

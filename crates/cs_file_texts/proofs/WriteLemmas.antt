@@ -12,7 +12,7 @@ pub front_more : (bytes front rest : List ℕ) (n : ℕ) → bytes ≡ front ++ 
 front_more bytes front rest n is =
     is ∙ ap (λ l. front ++ l) (sym (take-append-drop n rest) ∙ ap (λ l. take n rest ++ l) (sym (take_rest rest n))) ∙ sym (append_assoc front (take n rest) _)
 
--- a piece of which a front is written, behind pieces that are written
+-- a piece with a prefix that is written, after pieces that are written
 pub AppendsFront-after : (old mid new : Option (List ℕ)) (done piece rest text : List ℕ) → text ≡ done ++ (piece ++ rest) → Appends old mid done → AppendsFront mid new piece → AppendsFront old new text
 AppendsFront-after old mid new done piece rest text is before front = (
   done ++ front.0,

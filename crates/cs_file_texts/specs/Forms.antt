@@ -7,12 +7,12 @@ use Rattle.cs_file_texts.specs.declared.texts.form.Form.{Form}
 use Rattle.cs_file_texts.specs.declared.texts.form.Form.TheVariants.{Dump, Sql}
 use Rattle.cs_file_texts.specs.Texts.{header_text, entry_text, statement}
 
--- what stands before the entries of a table
+-- what comes before the entries of a table
 abbrev pub header_part : Form → HeaderData → List ℕ
 header_part Dump header = header_text header
 header_part Sql header = []
 
--- what stands for an entry of the table of this name
+-- the text of an entry of the table of this name
 abbrev pub entry_part : Form → List ℕ → Entry → List ℕ
 entry_part Dump name entry = entry_text entry.indirect entry.change
 entry_part Sql name entry = statement name entry.change

@@ -4,14 +4,14 @@ use Rattle.std.specs.Io.KnownBytes.{Appends}
 use Rattle.cs_file_texts.specs.declared.told.Told.{Told}
 use Rattle.cs_file_texts.specs.Told.{known, has_failed}
 
--- of what was pending and a text, a front was written, and the rest is what is pending now
+-- a prefix of the pending bytes and a text was written, and the rest is pending now
 pub record Gathered {W : Type 0} (contents : W → Option (List ℕ)) (pending left : List ℕ) (old new : Told W)
     (text : List ℕ) : Type 0 where
   pub front : List ℕ
   pub split : pending ++ text ≡ front ++ left
   pub appended : Appends (known contents old) (known contents new) front
 
--- of what was pending and a text, a front was written, and the rest is lost
+-- a prefix of the pending bytes and a text was written, and the rest is lost
 pub record Interrupted {W : Type 0} (contents : W → Option (List ℕ)) (pending : List ℕ) (old new : Told W)
     (text : List ℕ) : Type 0 where
   pub front : List ℕ

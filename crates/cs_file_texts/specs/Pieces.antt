@@ -1,4 +1,4 @@
--- What the pieces of texts stand for.
+-- The meaning of the pieces of texts.
 use Rattle.std.specs.Prelude.{◌≡◌, ℕ, Bool, true, false, List, [], ◌∷◌, ◌++◌, map, codes, decimal, Option, None, Some}
 use Rattle.cs_value.specs.declared.value.Value.{Value}
 use Rattle.cs_value.specs.Value.{value_of}
@@ -31,7 +31,7 @@ change_text (Insert row) = codes "insert "
 change_text (Delete row) = codes "delete "
 change_text (Update old new) = codes "update "
 
--- a record behind its name, if there is one
+-- a record after its name, if there is one
 abbrev pub record_text : List ℕ → Option (List OwnedField) → List ℕ
 record_text name None = []
 record_text name (Some fields) = name ++ fields_text fields
@@ -58,7 +58,7 @@ abbrev pub term_text : Terms → ℕ → OwnedValue → List ℕ
 term_text Assignments = assignment
 term_text Conditions = condition
 
--- what stands between what is said of two columns
+-- what is between the texts of two columns
 abbrev pub between_of : Terms → List ℕ
 between_of Assignments = codes ", "
 between_of Conditions = codes " AND "

@@ -59,8 +59,8 @@ entry_text indirect (Update old new) =
 unfoldable pub group_text : GroupData → List ℕ
 group_text group = header_text group.header ++ flat_map (λ e. entry_text e.indirect e.change) group.entries
 
--- a line for each table, with its columns and flags, and behind it a line for each of its entries; a line feed in a
--- text or a name stands as it is
+-- a line for each table, with its columns and flags, and after it a line for each of its entries; a line feed in a
+-- text or a name is written unchanged
 abbrev pub dump_of : List GroupData → List ℕ
 dump_of changeset = flat_map group_text changeset
 

@@ -1,4 +1,4 @@
--- The definitions of inverses and joins, on a table `t` of two columns, of which the first is the key.
+-- The definitions of inverses and concatenations, on a table `t` of two columns, with the first as its key.
 use Rattle.std.proofs.Common.{◌≡◌, ℕ, pos, Bool, true, List, [], ◌∷◌}
 use Rattle.std.proofs.Common.{is_some, true≢false, refl, sym, ap, arith}
 use Rattle.cs_value.specs.declared.value.OwnedValue.{OwnedValue}
@@ -29,7 +29,7 @@ spelling = tt
 
 -- inverses
 
--- whether a row stood before
+-- whether there was a row before
 abbrev stood : ImageData → Bool
 stood image = is_some image.before
 

@@ -76,7 +76,7 @@ unmet_bytes flags met firsts seconds index entry marked so lt is marked_is =
 pub key_there : (own key : List ℕ) (seconds : List Entry) (index : ℕ) (seen : Entry) → IsIndexWhere (λ e. e ≡ seen) seconds index → key_of own seen.change ≡ key → IsIndexWhere (λ e. key_of own e.change ≡ key) seconds index
 key_there own key seconds index seen at is = record { within = at.within; holds = λ d. ap (λ (e : Entry). key_of own e.change) (at.holds d) ∙ is }
 
--- ---- a table of which entries are left
+-- ---- a table with entries that are left
 
 pub joined_none : (header : HeaderData) (out opened grown : List ℕ) (entries : List Entry) → opened ≡ out ++ header_bytes header → grown ≡ opened ++ entries_bytes entries → length grown ≡ length opened
     → take (length out) grown ≡ out ++ some_bytes group_bytes (some_group header entries)
@@ -179,7 +179,7 @@ module _ (groups : List GroupData) (group : GroupData) where
 
 -- ---- the tables of a list, one after another
 
--- the group whose table stands at an index
+-- the group whose table is at an index
 module _ (named : NamedData) (groups : List GroupData) (listed : AreListed named groups) (index : ℕ) (lt : index < length named.tables) where
   abbrev pub group_at : GroupData
   group_at = get_or groups index no_group

@@ -9,7 +9,7 @@ use Rattle.cs_file_texts.specs.Told.{known}
 use Rattle.cs_file_texts.specs.Calls.{AppendsFront}
 use Rattle.cs_files.specs.Printing.{IfUnwritten, PrintsFrontTo}
 
--- a front of what is printed of a file was written
+-- a prefix of what is printed of a file was written
 pub front_printed : {W X : Type 0} (contents : W → Option (List ℕ)) (text_of : List GroupData → List ℕ) (file : List ℕ) (old new : Told W) (result : Result X PrintError)
     (groups : List GroupData) → IsFileOf file groups → AppendsFront (known contents old) (known contents new) (text_of groups)
     → IfErr result (IfUnwritten (PrintsFrontTo contents text_of file old new))

@@ -43,7 +43,7 @@ pub record Joins (first second out : List ℕ) : Type 0 where
   pub is_joined : IsJoined changeset other join
   pub join_is_file : out ≡ file_bytes join
 
--- two files of which the second has at this place the first table that is not as in the first file
+-- the first table of the second file that is not as in the first file is at this place
 pub record Clashes (first second : List ℕ) (place : ℕ) : Type 0 where
   pub changeset : List GroupData
   pub other : List GroupData

@@ -147,7 +147,7 @@ unless_same_length : (s : Bool) (n : ℕ) (change : Change) → change_length (S
 unless_same_length true n change h = omega arith
 unless_same_length false n change h = h
 
--- the net change of two, of which the second follows the first
+-- the net change of two, if the second follows the first
 net_length : (flags : List ℕ) (first second : Change) → follows flags first second ≡ true
     → change_length (net_change flags (joint_image flags first second)) ≤ change_length (Some first) + change_length (Some second)
 net_length flags (Insert row) (Insert other) e = absurd (true≢false (sym e))

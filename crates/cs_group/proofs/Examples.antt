@@ -1,4 +1,4 @@
--- The definitions on worked examples: the table t of two columns, of which the first is the key.
+-- The definitions in examples: the table t of two columns, with the first as its key.
 use Rattle.std.proofs.Common.{◌≡◌, pos, Bool, true, false, List, [], ◌∷◌, map, codes, refl, zero, suc, arith}
 use Rattle.std.specs.Prelude.{Option, Some, None}
 use Rattle.std.proofs.lemmas.List.Elements.{All-nil}
@@ -60,7 +60,7 @@ other first second = merged flags (entry false first) (entry true second)
 inserted_first :
     (one (Insert row) (Insert later) ≡ Keep)
     × (both (Insert row) (update x y) ≡ Becomes (entry true (Insert later)))
-    -- also where the second one says that another value stood there
+    -- also if the second one has another previous value
     × (both (Insert row) (update Null y) ≡ Becomes (entry true (Insert later)))
     × (both (Insert row) (Delete row) ≡ Vanish)
 inserted_first = (refl, refl, refl, refl)
@@ -106,7 +106,7 @@ changesets_are_joined :
     × (joined (one_change (Delete row)) (one_change (Insert later)) ≡ one_change (update x y))
     × (joined (one_change (update x y)) (one_change (update y x)) ≡ [])
     × (joined (one_change (Insert row)) (one_change (Insert row)) ≡ one_change (Insert row))
-    -- another key and another table stand behind the first; the flags of the first file stand
+    -- another key and another table come after the first; the flags of the first file remain
     × (joined (one_change (Insert row)) (one_change (Insert second_row))
     ≡ group (Insert row ∷ Insert second_row ∷ []) ∷ [])
     × (joined (one_change (Insert row)) (one_change_of other_table (Insert row))

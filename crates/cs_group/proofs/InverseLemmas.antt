@@ -55,7 +55,7 @@ pub InversesSoFar-all : (changeset inverse taken left : List GroupData) → Inve
 InversesSoFar-all changeset inverse taken [] so none = rw (sym (append-nil taken) ∙ so.whole) at so.each
 InversesSoFar-all changeset inverse taken (group ∷ left) so none = absurd (omega arith)
 
--- ---- one inverse alone
+-- ---- exactly one inverse
 
 module _ (law : EntryInverses) where
   same_entries : (flags : List ℕ) (es is js : List Entry) → AllByRecursion (IsEntry flags) is → AllByRecursion (IsEntry flags) js → AllZip (IsInverseEntry flags) es is → AllZip (IsInverseEntry flags) es js → is ≡ js

@@ -80,7 +80,7 @@ pub record IsRowUnder (flags key : List ℕ) (row : List OwnedValue) : Type 0 wh
   pub keyed : IsKeyedRow flags row
   pub own : key ≡ row_key flags row
 
--- a row that stands in a table is one
+-- a row in a table is one
 pub row_under : (schema : SchemaData) (key : List ℕ) (row : Option (List OwnedValue)) → IfSome row (IsRowAt schema key) → IfSome row (IsRowUnder schema.flags key)
 row_under schema key None is = tt
 row_under schema key (Some row) is = record { values = is.values; keyed = is.keyed; own = is.own }

@@ -85,7 +85,7 @@ module _ {X : Type 0} (text_of : X → List ℕ) where
         behind : place < j → get_or (set met place true) j false ≡ not (is_new text_of (firsts ++ x ∷ []) (get_or seconds j d))
         behind gt_place = elsewhere (λ is. omega (arith, gt_place, is)) (once place j d gt_place lt)
 
-  -- of a list of which a thing is, that is new where it is not marked
+  -- a thing of a list is new if it is not marked
   module _ (met : List Bool) (firsts seconds : List X) (so : AreMet text_of met firsts seconds) (place : ℕ) (x : X) (lt : place < length seconds) (is : x ≡ get_or seconds place x) where
     pub unmet_is : (marked : Bool) → marked ≡ get_or met place false → (if marked then None else Some x) ≡ if_new text_of firsts x
     unmet_is marked marked_is =
@@ -107,7 +107,7 @@ module _ {X : Type 0} (text_of : X → List ℕ) where
       marked_passed marked =
           filter_more_behind seconds place x lt is (is_new text_of firsts) start now now None so_far (unmet_is true (sym marked)) (sym (append-nil now))
 
--- ---- what is kept, and behind it what is new
+-- ---- what is kept, and after it what is new
 
 pub kept_and_new : {X : Type 0} {start mid grown : List X} (kept new : List X) → start ≡ [] → mid ≡ start ++ kept → grown ≡ mid ++ new → grown ≡ kept ++ new
 kept_and_new {X} kept new none mid_is grown_is =

@@ -9,6 +9,6 @@ flags_are_numbered :
     × (numbered_flags (2 ∷ 0 ∷ 1 ∷ []) ≡ 1 ∷ 0 ∷ 2 ∷ [])
 flags_are_numbered = (refl, refl, refl)
 
--- the 255th column of the key and those behind it
+-- the 255th column of the key and the later ones
 last_numbers : numbered_behind 253 (1 ∷ 1 ∷ 0 ∷ 1 ∷ []) ≡ 254 ∷ 255 ∷ 0 ∷ 255 ∷ []
 last_numbers = refl

@@ -89,7 +89,7 @@ module _ {K X : Type 0} (text : K → List ℕ) (text_of : X → List ℕ) (xs :
       let more : map text_of (take (i + 1) xs) ≡ map text_of (take i xs) ++ text_of x ∷ [] = ap (map text_of) (take_more_at xs i x within is) ∙ map-append text_of (take i xs) (x ∷ []) in
       ap (map text) grew ∙ map-append text keys (key ∷ []) ∙ cc (named, key_is) ∙ sym more
 
--- ---- what is left of a list behind a place
+-- ---- the rest of a list after an index
 
 module _ {X : Type 0} (xs : List X) (place : ℕ) (x : X) (others : List X) (is : drop place xs ≡ x ∷ others) where
   pub left_within : place < length xs

@@ -56,7 +56,7 @@ module _ {X : Type 0} (text_of : X → List ℕ) where
       let no = not_same (text_of x) text (same (text_of x) text) refl other in
       rw no (with_text-at xs text index d (AllPairs-tail (λ x y. text_of x ≢ text_of y) x xs once) (omega arith) is)
 
-  -- what stands at the index of the text is found
+  -- the element at the index of the text is found
   pub with_text-index : (xs : List X) (text : List ℕ) (index : ℕ) (x : X) → Once xs → IsIndexWhere (λ y. text_of y ≡ text) xs index → x ≡ get_or xs index x → Some x ≡ with_text text_of xs text
   with_text-index xs text index x once at is = ap Some is ∙ sym (with_text-at xs text index x once at.within (at.holds x))
 

@@ -11,7 +11,7 @@ use Rattle.cs_group.specs.Joining.{IsJoined}
 abbrev pub IsInverse : List GroupData → List GroupData → Type 0
 IsInverse changeset inverse = AllZip IsInverseGroup changeset inverse
 
--- a changeset has one inverse alone
+-- a changeset has exactly one inverse
 abbrev pub ChangesetInverses : Type 0
 ChangesetInverses = (changeset inverse other : List GroupData) → IsChangeset inverse → IsChangeset other
     → IsInverse changeset inverse → IsInverse changeset other → inverse ≡ other

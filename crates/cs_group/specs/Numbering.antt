@@ -9,7 +9,7 @@ use Rattle.cs_group.specs.Inverse.{IsInverse}
 abbrev pub next_number : ℕ → ℕ
 next_number last = suc (min last 254)
 
--- flags, those of the key numbered in column order behind the numbers up to this one
+-- flags, those of the key numbered in column order after the numbers up to this one
 abbrev pub numbered_behind : ℕ → List ℕ → List ℕ
 numbered_behind last [] = []
 numbered_behind last (zero ∷ flags) = zero ∷ numbered_behind last flags

@@ -1,4 +1,4 @@
--- For which causes a call fails, and of which writes that is.
+-- For which causes a call fails, and which writes those are.
 use Rattle.std.proofs.Common.{◌≡◌, ◌⊎◌, inl, inr, true, false, ℕ, List, Result, Ok, Err, IfErr, IsErrAnd, refl, sym, subst, ◌∙◌}
 use Rattle.cs_value.specs.declared.value.OwnedValue.{OwnedValue}
 use Rattle.cs_value.specs.State.{State, with_row}

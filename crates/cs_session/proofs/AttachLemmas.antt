@@ -56,7 +56,7 @@ unwritten tables = (
   λ all. none_all tables (recursion_from_All (λ (t : AttachedTable). t.firsts ≡ []) (map attached_of tables) all),
 )
 
--- ---- a table behind the others
+-- ---- a table after the others
 
 pub one_more : (notes : Notes) (name : List ℕ) (schema : SchemaData) → IsNotes notes → IsName name → IsSchema schema → IsNewTable notes name
     → IsNotes (notes ++ record { name = name; schema = schema; firsts = [] } ∷ [])
@@ -85,7 +85,7 @@ pub attaches : {X E : Type 0} (result : Result X E) (state : State) (name : List
 attaches (Ok x) state name old new schema found fresh is = record { schema = schema; found = found; fresh = fresh; is = is }
 attaches (Err e) state name old new schema found fresh is = tt
 
--- its rows from before are those that stand there, behind those of the others
+-- its rows from before are its current ones, after those of the others
 pub attached_rewound : {X E : Type 0} (result : Result X E) (state : State) (name : List ℕ) (old new : Notes) → OnOk result (Attaches state name old new)
     → OnOk result (rewound new state ≡ rewound old state ++ rows_at state name ∷ [])
 attached_rewound (Ok x) state name old new done =

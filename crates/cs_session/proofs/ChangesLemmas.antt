@@ -37,12 +37,12 @@ pub record IsFirst (table : AttachedTable) (first : FirstImage) : Type 0 where
   pub fits : IfSome first.row (IsRowAt table.schema first.key)
   pub found : first_at table.firsts first.key ≡ Some first.row
 
--- the entry meets no conflict in the state before, and leaves what stands there now
+-- the entry has no conflict in the state before, and leaves the current row
 pub record LeadsBack (state before : State) (p : PlacedEntry) : Type 0 where
   pub no_conflict : placed_kind before p ≡ None
   pub leaves : row_after p.flags p.entry.change (current before p) ≡ current state p
 
--- a row that may stand in a table obeys its rules
+-- a row that may be in a table obeys its rules
 row_obeys : (schema : SchemaData) (key : List ℕ) (row : Option (List OwnedValue)) → IfSome row (IsRowAt schema key) → IfSome row (Obeys schema.refuses)
 row_obeys schema key None is = tt
 row_obeys schema key (Some row) is = is.obeys
@@ -105,7 +105,7 @@ module _ (state before : State) (table : AttachedTable) (has : schema_at before 
       at None net others = others
       at (Some entry) net others = (net.leads, others)
 
-  -- a key that no entry is of has the row that stood there first
+  -- a key without an entry has the first row
   no_entry : (q : List ℕ) (firsts : List FirstImage) → AllByRecursion (IsFirst table) firsts → AllByRecursion (λ e. ¬ (key_of flags e.change ≡ q)) (entries_of firsts)
       → unwrap_or (first_at firsts q) (row_at state table.name q) ≡ row_at state table.name q
   no_entry q [] is apart = refl
@@ -198,7 +198,7 @@ module _ (state before : State) where
     other_key table is [] apart = tt
     other_key table is (e ∷ es) apart = ((λ key. apart.0 (is, key)), other_key table is es apart.1)
 
-    -- a row that no entry is of stood there before, or its table is not attached
+    -- a row without an entry was there before, or its table is not attached
     pub by_table : (notes : Notes) → AllByRecursion (IsTracked state before) notes → AllByRecursion Elsewhere (placed (recorded_changes notes state))
         → AllByRecursion (λ t. ¬ (t.name ≡ name)) notes ⊎ (row_at state name q ≡ row_at before name q)
     by_table [] tracked apart = inl tt
@@ -300,7 +300,7 @@ module _ (state : State) (notes : Notes) (is_state : IsState state) (are_notes :
     no_conflict = rw all_apply (All-from_recursion (λ p. placed_kind before p ≡ None) (placed changes) (none_meets (placed changes) (all_lead_back state before notes all_tracked)));
   }
 
-  -- and with it they become the rows that stand there
+  -- and with it they become the current rows
   pub changes_applied : (choose : Choices) → IsApplied before changes choose state
   changes_applied choose = rw all_apply (record {
     schemas = λ table. sym (rewound_schemas state notes has table);
@@ -399,10 +399,10 @@ module _ (state : State) (notes : Notes) (is_state : IsState state) (are_notes :
 
   -- ---- its inverse
 
-  -- the rows from before stand in a state
+  -- the rows from before are those of a state
   pub before_is : IsState before
   before_is = rewound_is_state state is_state notes (recursion_from_All IsAttachedTable notes are_notes.each) has
 
-  -- meets no conflict with the rows that stand there, and with it they become those from before
+  -- has no conflict with the current rows, and with it they become those from before
   pub inverse_rewinds : (inverse : List GroupData) (choose : Choices) → IsInverse changes inverse → IsClean state inverse × IsApplied state inverse choose before
   inverse_rewinds inverse choose undoes = applied_reverts before changes inverse choose choose state before_is changes_are undoes changes_clean (changes_applied choose)

@@ -1,4 +1,4 @@
--- What an edit tells of the rows that it wrote.
+-- What an edit reports of the rows that it wrote.
 use Rattle.std.proofs.Common.{bytes_eq, ◌≡◌, ℕ, Bool, true, false, cond, not, List, [], ◌∷◌, Option, Some, None, option_map, Result, Ok, Err, ◌⊎◌, inl, inr, refl, sym, ap, ◌∙◌, subst}
 use Rattle.std.specs.Prelude.{string_bytes, OnOk}
 use Rattle.std.specs.List.{AllByRecursion}
@@ -29,7 +29,7 @@ use Rattle.cs_session.specs.Recording.{Records, RefusesEdit, table_of}
 use Rattle.cs_session_notes.proofs.NotesLemmas.{only_writes, tells_formers, recorded_are}
 use Rattle.cs_session_notes.proofs.FirstLemmas.{rewound_recorded}
 
--- the tables stay, and what is told of the writes, all of one table, says which rows stood there
+-- the tables stay, and the reported writes, all of one table, have the previous rows
 pub record Tells (old : State) (name : List ℕ) (done : Edited) : Type 0 where
   pub of_table : AllByRecursion (λ w. w.table ≡ name) done.written
   pub schemas : (table : List ℕ) → schema_at done.state table ≡ schema_at old table
@@ -105,13 +105,13 @@ in_found : (state : State) (name : List ℕ) (o : Option TableData) (next : Tabl
 in_found state name None next h = tt
 in_found state name (Some found) next h = h found refl
 
--- an edit tells which rows stood where it wrote
+-- an edit reports the previous rows of what it wrote
 pub edited_tells : (state : State) (edit : Edit) → IfDone state (table_of edit) (edited state edit)
 edited_tells state (Insert name row) = in_found state (string_bytes name) (get state (string_bytes name)) _ (λ found is. inserts state (string_bytes name) found is row)
 edited_tells state (Update name key row) = in_found state (string_bytes name) (get state (string_bytes name)) _ (λ found is. updates state (string_bytes name) found is key row)
 edited_tells state (Delete name key) = in_found state (string_bytes name) (get state (string_bytes name)) _ (λ found is. deletes state (string_bytes name) found is key)
 
--- so the former rows could stand in the tables, where the table that is edited is there as it was attached
+-- so the previous rows may be in the tables, if the edited table is there as it was attached
 pub edited_formers : (state : State) (edit : Edit) (done : Edited) → edited state edit ≡ Ok done → IsState state → (notes : Notes) → HasNamed state (table_of edit) notes → AreFormers notes done.written
 edited_formers state edit done is is_state notes has =
     let tells : Tells state (table_of edit) done = subst (IfDone state (table_of edit)) is (edited_tells state edit) in

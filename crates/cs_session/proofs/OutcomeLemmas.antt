@@ -57,7 +57,7 @@ leads_back state notes is_state are has =
     let each = recursion_from_All (HasAttached state) notes has in
     record { clean = changes_clean state notes is_state are each; applied = changes_applied state notes is_state are each }
 
--- the net changeset leads from the rows from before to those that stand there now
+-- the net changeset leads from the rows from before to the current ones
 pub read_leads : {E : Type 0} (r : Result (List GroupData) E) (begun old : Database) → begun ≡ old → IsState (tables_in begun) → (notes : Notes) → IsNotes notes
     → OnOk r (HasTables (tables_in begun) notes) → IfOk r (λ c. c ≡ recorded_changes notes (tables_in begun)) → IfOk r (LeadsBackTo notes (tables_in old))
 read_leads (Ok c) begun old same is_state notes are has made =
@@ -92,7 +92,7 @@ module _ (law : ChangesetFiles) (state : State) (notes : Notes) (is_state : IsSt
   each : AllByRecursion (HasAttached state) notes
   each = recursion_from_All (HasAttached state) notes has
 
-  -- the file of the net changeset leads from the rows from before to those that stand there now
+  -- the file of the net changeset leads from the rows from before to the current ones
   abbrev leads : Leads (file_bytes changes) (rewound_state notes state) state
   leads = record {
     changeset = changes;

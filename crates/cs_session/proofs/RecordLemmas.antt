@@ -49,7 +49,7 @@ module _ (chooses : Handler) (noop : Noop) (file : List ℕ) (direction : Direct
   refuses_noting written e formers (inr fails) = absurd (fails.1 formers)
 
   module _ (report : Report) (new : State) (applies : Applies chooses noop file direction state report new) where
-    -- what the report tells of the writes says which rows stood there
+    -- the writes that a report has say which rows were there
     told : TellsFormer state new (map written_of report.written.items)
     told = subst (TellsFormer state new) (sym applies.written) (written_tells noop state applies.changeset applies.choose new applies.applied)
 

@@ -34,7 +34,7 @@ back_table schema first rows fits is = at first.row fits
     at None fit = table_remove (with_schema rows schema) first.key is
     at (Some row) fit = table_insert (with_schema rows schema) first.key row is fit
 
--- with first images that could stand in it put back, a table is one still
+-- if first images that fit are put back, a table is still one
 all_back_table : (schema : SchemaData) (firsts : List FirstImage) (rows : RowMap) → AllByRecursion (λ f. IfSome f.row (IsRowAt schema f.key)) firsts
     → IsTable (with_schema rows schema) → IsTable (with_schema (put_all_back firsts rows) schema)
 all_back_table schema [] rows fits is = is
@@ -48,7 +48,7 @@ module _ (state : State) where
       let found = table_of_schema (get (rewound_state notes state) table.name) table.schema (rewound_schemas notes has.1 table.name ∙ has.0) in
       same_schemas (rewound_state notes state) table.name found.0 (rewound_rows state table) found.1 name ∙ rewound_schemas notes has.1 name
 
-  -- where the first images could stand in their tables, it is one
+  -- if the first images fit their tables, it is one
   pub rewound_is_state : IsState state → (notes : Notes) → AllByRecursion IsAttachedTable notes → AllByRecursion (HasAttached state) notes → IsState (rewound_state notes state)
   rewound_is_state is [] each has = is
   rewound_is_state is (table ∷ notes) each has =

@@ -63,7 +63,7 @@ RefusesApply chooses noop file direction old notes (Store error) = IsStoreFault 
 RefusesApply chooses noop file direction old notes NoMemory = Unit {0}
 RefusesApply chooses noop file direction old notes AlreadyAttached = ⊥
 
--- a fault of the changeset, or of what it meets: the store's refusals and want of memory are told as the session's own
+-- a fault of the changeset, or a conflict: the store's refusals and NoMemory are the session's own
 abbrev pub IsOfChangeset : ApplyFault → Type 0
 IsOfChangeset (apply_fault.Store error) = ⊥
 IsOfChangeset apply_fault.NoMemory = ⊥

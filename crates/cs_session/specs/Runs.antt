@@ -43,7 +43,7 @@ pub record EditsRow (m n : Moment) : Type 0 where
   pub edit : Edit
   pub recorded : Records m.state edit m.notes n.state n.notes
 
--- a changeset is applied, with any choices at its conflicts, with or without its idle entries, and noted
+-- a changeset is applied, with any choices at its conflicts, with or without its no-op entries, and noted
 pub record AppliesChangeset (m n : Moment) : Type 0 where
   pub changeset : List GroupData
   pub noop : Noop

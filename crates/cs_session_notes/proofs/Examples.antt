@@ -29,7 +29,7 @@ schema = record { columns = codes "a" ∷ codes "b" ∷ []; flags = flags; refus
 abbrev with_firsts : List FirstImage → Notes
 with_firsts firsts = record { name = codes "t"; schema = schema; firsts = firsts } ∷ []
 
--- a key of t that was written, and the row that stood there
+-- a written key of t, and the previous row
 abbrev wrote : List ℕ → Option (List OwnedValue) → WrittenData
 wrote key former = record { table = codes "t"; key = key; former = former }
 
@@ -38,12 +38,12 @@ stood key former = record { key = key; row = former }
 
 -- ---- a row that comes and goes
 
--- the insertion of (1, 'x'), the update to (1, 'y') and the deletion: what stood there first is noted once
+-- the insertion of (1, 'x'), the update to (1, 'y') and the deletion: the first row is noted once
 noted_once : recorded (recorded (recorded (with_firsts []) (wrote first_key None ∷ [])) (wrote first_key (Some row) ∷ [])) (wrote first_key (Some later) ∷ [])
     ≡ with_firsts (stood first_key None ∷ [])
 noted_once = refl
 
--- no row stood there, and none stands there
+-- no row was there, and none is there
 no_change : (state : State) → row_at state (codes "t") first_key ≡ None → recorded_changes (with_firsts (stood first_key None ∷ [])) state ≡ []
 no_change state is = rw is refl
 
@@ -78,7 +78,7 @@ other_table = refl
 
 -- ---- the rows from before
 
--- those of a table that was attached are those that stand there
+-- those of a table that was attached are its current ones
 attached_alone : (state : State) → rewound (with_firsts []) state ≡ rows_at state (codes "t") ∷ []
 attached_alone state = refl
 

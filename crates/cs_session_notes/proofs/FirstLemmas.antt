@@ -1,4 +1,4 @@
--- First images, and the rows that they say stood there.
+-- First images, and the rows that they restore.
 use Rattle.std.proofs.Common.{bytes_eq, ◌≡◌, ℕ, Bool, true, false, cond, List, [], ◌∷◌, ◌++◌, Option, Some, None, option_map, ◌⊎◌, inl, inr, refl, sym, ap, ◌∙◌}
 use Rattle.std.specs.Prelude.{unwrap_or, is_some}
 use Rattle.std.specs.List.{AllByRecursion}
@@ -35,7 +35,7 @@ from_first : (b : Bool) (row now held : Option (List OwnedValue)) (others : Opti
 from_first true row now held others e = refl
 from_first false row now held others e = e
 
--- each row is what stood there first, or what stands there
+-- each row is the first one, or the current one
 pub put_all_at : (firsts : List FirstImage) (rows : RowMap) (q : List ℕ) → get (put_all_back firsts rows) q ≡ unwrap_or (first_at firsts q) (get rows q)
 put_all_at [] rows q = refl
 put_all_at (first ∷ firsts) rows q =
@@ -86,7 +86,7 @@ module _ (old : List ℕ → Option (List OwnedValue)) (q : List ℕ) where
   abbrev Noted : List FirstImage → List WrittenData → Type 0
   Noted firsts written = (AllByRecursion (λ w. ¬ (w.key ≡ q)) written × (first_at (noted firsts written) q ≡ None)) ⊎ (first_at (noted firsts written) q ≡ Some (old q))
 
-  -- a key that was not there is not written, or gets the row that stood there
+  -- a key that was not there is not written, or gets the previous row
   noted_new : (firsts : List FirstImage) (written : List WrittenData) → first_at firsts q ≡ None → AllByRecursion (λ w. old w.key ≡ w.former) written
       → Noted firsts written
   noted_new firsts [] e told = inl (tt, e)
@@ -161,7 +161,7 @@ module _ (old new : State) (written : List WrittenData) (tells : TellsFormer old
       (λ apart. tells.others table.name q (All-from_recursion (λ (w : WrittenData). ¬ ((w.table ≡ table.name) × (w.key ≡ q))) written (apart_of old table.name written q apart)))
       ∙ sym (put_all_at table.firsts (rows_at old table.name) q))
 
-  -- what is told of writes, and noted, leaves the rows from before as they were
+  -- noting writes leaves the rows from before as they were
   pub rewound_recorded : (notes : Notes) → rewound (recorded notes written) new ≡ rewound notes old
   rewound_recorded [] = refl
   rewound_recorded (table ∷ notes) = let first = same_rows table in let rest = rewound_recorded notes in cc (first, rest)

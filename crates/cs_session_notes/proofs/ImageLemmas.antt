@@ -12,7 +12,7 @@ use Rattle.cs_session_notes.specs.Images.{first_of, with_first}
 abbrev Entries : Type 0
 Entries = List (List ℕ × Option (List OwnedValue))
 
--- what a map finds is what stood there first
+-- a map finds the first row
 pub found_first : (key : List ℕ) (entries : Entries) → lookup (pointwise nat_eq key) entries ≡ first_at (map first_of entries) key
 found_first key [] = refl
 found_first key (e ∷ entries) =
@@ -25,7 +25,7 @@ is_there n entries key =
     ap (λ (o : Option (Option (List OwnedValue))). is_some o)
     (found_first key entries ∙ ap (λ (l : List FirstImage). first_at l key) (sym (take-append-drop n (map first_of entries))))
 
--- a key that is not there comes behind
+-- a key that is not there comes last
 insert_new : (key : List ℕ) (row : Option (List OwnedValue)) (entries : Entries) → is_some (lookup (pointwise nat_eq key) entries) ≡ false
     → insert_entry (pointwise nat_eq) entries key row ≡ entries ++ (key, row) ∷ []
 insert_new key row [] e = refl

@@ -77,10 +77,10 @@ module _ {K : Type 0} (text : K → List ℕ) (name : List ℕ) (keys : List K) 
       at [] none = absurd (none-some i (ap (position tests) none ∙ sym e))
       at (k ∷ ks) is = let found = position-Some tests keys i k (sym e) in stands_at i k found.0 found.1
 
--- ---- a table behind the others
+-- ---- a table after the others
 
 module _ (name : List ℕ) (tables : List Attached) (fresh : IsNewTable (map attached_of tables) name) where
-  -- its name comes behind the others
+  -- its name comes after the others
   pub names_then : {K : Type 0} (text : K → List ℕ) (keys : List K) → map text keys ≡ map name_in tables → (key : K) → text key ≡ name
       → (new : List K) → new ≡ insert_key (λ a b. pointwise nat_eq (text a) (text b)) keys key → (more mid : List Attached) (value : Attached) → more ≡ mid ++ value ∷ [] → mid ≡ tables → name_in value ≡ name
       → map text new ≡ map name_in more

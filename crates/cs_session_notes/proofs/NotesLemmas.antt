@@ -85,7 +85,7 @@ module _ (written : List WrittenData) where
   names_stay [] apart = tt
   names_stay (table ∷ notes) apart = (AllByRecursion-map (λ t. table.name ≢ t.name) (noted_in written) notes apart.0, names_stay notes apart.1)
 
-  -- what is noted is well formed where the former rows could stand in the tables
+  -- what is noted is well formed if the previous rows fit the tables
   pub recorded_are : (notes : Notes) → IsNotes notes → AreFormers notes written → IsNotes (recorded notes written)
   recorded_are notes is formers = record {
     each = All-from_recursion IsAttachedTable (recorded notes written) (each_noted notes formers (recursion_from_All IsAttachedTable notes is.each));
@@ -102,7 +102,7 @@ module _ (old : State) (is_state : IsState old) where
       AllByRecursion-weaker (λ w. row_at old table.name w.key ≡ w.former) (λ w. IfSome w.former (IsRowAt table.schema w.key)) (λ w told.
       subst (λ (o : Option (List OwnedValue)). IfSome o (IsRowAt table.schema w.key)) told (row_at_fits old table.name table.schema is_state has w.key))
 
-  -- the rows that stood in a state could stand in its tables
+  -- the rows of a state fit its tables
   pub tells_formers : (new : State) (written : List WrittenData) → TellsFormer old new written → (notes : Notes)
       → AllByRecursion (λ t. HasAttached old t ⊎ (writes_of t.name written ≡ [])) notes → AreFormers notes written
   tells_formers new written tells [] has = tt

@@ -26,7 +26,7 @@ module _ (tables : List Attached) (p : ℕ) (new : Attached) where
   within_set : (indices : List ℕ) → AllByRecursion (λ q. q < length tables) indices → AllByRecursion (λ q. q < length (set tables p new)) indices
   within_set indices each = rw (length-set tables p new) each
 
-  -- another table than that at the index stands where it stood
+  -- another table than that at the index stays where it was
   other_stands : (i : ℕ) (t : Attached) → p ≢ i → t ≡ get_or (set tables p new) i t → t ≡ get_or tables i t
   other_stands i t apart is = is ∙ get_or-set_other tables p i new t (λ (e : i ≡ p). apart (sym e))
 
@@ -59,7 +59,7 @@ module _ (tables : List Attached) (p : ℕ) (new : Attached) where
           other : p ≢ i → HasNonePending t
           other ne = but.1 i t apart (rw (← length-set tables p new) lt) (other_stands i t ne at_i)
 
--- a table that has nothing pending, behind the others
+-- a table without pending notes, after the others
 pub settled_push : (indices : List ℕ) (tables : List Attached) (new : Attached) → HasNonePending new → HaveNonePendingBut indices tables → HaveNonePendingBut indices (tables ++ new ∷ [])
 settled_push indices tables new none_pending but = (AllByRecursion-weaker (λ q. q < length tables) (λ q. q < length (tables ++ new ∷ [])) within indices but.0, each)
   where

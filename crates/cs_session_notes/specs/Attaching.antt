@@ -12,7 +12,7 @@ use Rattle.cs_session_notes.specs.FirstImages.{Notes}
 abbrev pub IsNewTable : Notes → List ℕ → Type 0
 IsNewTable notes name = All (λ t. t.name ≢ name) notes
 
--- the table is attached behind the others, without a first image
+-- the table is attached after the others, without a first image
 pub record Attaches (state : State) (name : List ℕ) (old new : Notes) : Type 0 where
   pub schema : SchemaData
   pub found : schema_at state name ≡ Some schema

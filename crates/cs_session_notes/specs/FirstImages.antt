@@ -1,7 +1,7 @@
 -- What a session remembers, and what that says of a state: the introduction to SQLite's session extension, under
 -- "changesets and patchsets", and its interface, under "sqlite3session_changeset". For each row that was written since
--- its table was attached, the row that stood there first is kept, or that none did; the changes are from these rows to
--- those that stand there now.
+-- its table was attached, the row that was there first is kept, or that there was none; the changes are from these rows
+-- to the current ones.
 use Rattle.std.specs.Prelude.{bytes_eq, ◌≡◌, ◌≢◌, ℕ, if◌then◌else◌, List, [], ◌∷◌, ◌++◌, map, filter, filter_map}
 use Rattle.std.specs.Prelude.{All, AllPairs, Option, None, Some, option_map, is_some, unwrap_or, IfSome}
 use Rattle.std.specs.FinMap as map
@@ -14,7 +14,7 @@ use Rattle.cs_group.specs.Net.{net_entry}
 
 -- ---- what is remembered
 
--- a key, and the row that stood under it when it was first written, or none
+-- a key, and its row before the first write, or none
 pub record FirstImage : Type 0 where
   pub key : List ℕ
   pub row : Option (List OwnedValue)
@@ -48,14 +48,14 @@ pub record IsNotes (notes : Notes) : Type 0 where
 abbrev pub HasAttached : State → AttachedTable → Type 0
 HasAttached state table = schema_at state table.name ≡ Some table.schema
 
--- what stood under a key first, where it was written: a row or none
+-- the row before the first write of a key: a row or none
 abbrev pub first_at : List FirstImage → List ℕ → Option (Option (List OwnedValue))
 first_at [] key = None
 first_at (first ∷ firsts) key = if bytes_eq first.key key then Some first.row else first_at firsts key
 
 -- ---- the rows from before
 
--- the row stands under its key again, or none does
+-- the row is under its key again, or none is
 abbrev pub put_back : FirstImage → RowMap → RowMap
 put_back first rows = unwrap_or (option_map (map.insert rows first.key) first.row) (map.remove rows first.key)
 
@@ -78,7 +78,7 @@ rewound_state (table ∷ notes) state = with_rows (rewound_state notes state) ta
 
 -- ---- what is noted
 
--- the keys of writes that were not there yet, in their order, with the rows that stood there
+-- the keys of writes that were not there yet, in their order, with the previous rows
 abbrev pub noted : List FirstImage → List WrittenData → List FirstImage
 noted firsts [] = firsts
 noted firsts (w ∷ written) =
@@ -98,7 +98,7 @@ recorded notes written = map (noted_in written) notes
 
 -- ---- the changes
 
--- the net change from the first image of a key to the row that stands there, if these differ
+-- the net change from the first image of a key to the current row, if these differ
 abbrev pub entry_since : State → AttachedTable → FirstImage → Option Entry
 entry_since state table first = net_entry table.schema.flags first.row (row_at state table.name first.key)
 

@@ -1,4 +1,4 @@
--- What first images of the code stand for.
+-- The meaning of first images of the code.
 use Rattle.std.specs.Prelude.{ℕ, if◌then◌else◌, List, [], ◌∷◌, ◌++◌, Option, is_some}
 use Rattle.cs_value.specs.declared.value.OwnedValue.{OwnedValue}
 use Rattle.cs_session_notes.specs.FirstImages.{FirstImage, first_at}

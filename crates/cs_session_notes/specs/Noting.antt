@@ -1,4 +1,4 @@
--- When what is told of writes can be noted.
+-- When reported writes can be noted.
 use Rattle.std.specs.Prelude.{◌≡◌, ◌≢◌, ℕ, List, AllPairs, Option, IfSome}
 use Rattle.std.specs.List.{AllByRecursion}
 use Rattle.cs_value.specs.State.{IsRowAt, WrittenData}
@@ -9,7 +9,7 @@ use Rattle.cs_value.specs.declared.value.OwnedValue.{OwnedValue}
 use Rattle.cs_session_notes.specs.FirstImages.{AttachedTable, Notes, writes_of}
 use Rattle.cs_session_notes.specs.Images.{with_first}
 
--- the former rows of the writes of a table could stand in it
+-- the previous rows of the writes of a table fit it
 abbrev pub HasFormers : List WrittenData → AttachedTable → Type 0
 HasFormers written table =
     AllByRecursion (λ w. IfSome w.former (IsRowAt table.schema w.key)) (writes_of table.name written)
@@ -26,7 +26,7 @@ AreApart notes = AllPairs (λ s t. s.name ≢ t.name) notes
 abbrev pub IsDamage : SessionFault → Type 0
 IsDamage fault = fault ≡ Store DamagedStore
 
--- a row could stand under the key in the table
+-- a row may be under the key in the table
 abbrev pub Fits : AttachedTable → List ℕ → Option (List OwnedValue) → Type 0
 Fits table key row = IfSome row (IsRowAt table.schema key)
 

@@ -1,4 +1,4 @@
--- What types of the code stand for.
+-- The meaning of types of the code.
 use Rattle.std.specs.Prelude.{◌≡◌, ◌≢◌, ℕ, false, List, [], ◌++◌, ◌<◌, length, get_or, is_some}
 use Rattle.std.specs.List.{AllByRecursion}
 use Rattle.std.specs.Rc.{rc_str_bytes}
@@ -29,11 +29,11 @@ kept_of table = record {
 abbrev pub HasNonePending : Attached → Type 0
 HasNonePending table = table.firsts.pending ≡ []
 
--- a table with this name stands there
+-- a table with this name is at the index
 abbrev pub IsIndexOf : List Attached → List ℕ → ℕ → Type 0
 IsIndexOf tables name index = (index < length tables) × ((d : Attached) → name_in (get_or tables index d) ≡ name)
 
--- the key was not written in the table that stands there
+-- the key was not written in the table at the index
 abbrev pub IsNewAt : List Attached → List ℕ → ℕ → Type 0
 IsNewAt tables key index =
     (t : Attached) → t ≡ get_or tables index t → is_some (first_at (attached_of t).firsts key) ≡ false

@@ -58,7 +58,7 @@ concat_writes_join = record {
   written = refl;
 }
 
--- a file that is not there is told
+-- a file that is not there is reported
 missing_file_is_refused : RefusesInvert (Some empty) (codes "a") Input
 missing_file_is_refused = inl (get-empty (slice_cmp nat_cmp) (codes "a"))
 

@@ -12,7 +12,7 @@ use Rattle.cs_shell.specs.Words.{asked, command_app, Apply, Concat, Dump, Sql, I
 abbrev policy : Choice → Choice → Choice → Choice → Policy
 policy on_data on_notfound on_conflict on_constraint = record { on_data = on_data; on_notfound = on_notfound; on_conflict = on_conflict; on_constraint = on_constraint }
 
--- no word, and the name alone
+-- no word, and only the name
 no_word : asked [] ≡ Some (Shell (codes ":memory:"))
 no_word = refl
 

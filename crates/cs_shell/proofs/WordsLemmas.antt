@@ -34,7 +34,7 @@ none_asked : (faults : Kinds) (rows : List Row) (e : ErrorKind) → IsAmong e fa
 none_asked [] rows e among = absurd among
 none_asked (k ∷ faults) rows e among = refl
 
--- an error of clap, as it is told
+-- an error of clap, as it is printed
 pub refuses_kind : (words : List Text) (e : ErrorKind) → 1 < length words → (takes command_app words ≡ true → e ≡ kind.OutOfMemory)
     → (e ≡ kind.OutOfMemory) ⊎ IsAmong e (fault_of command_app words) → Refuses words (fault_of_kind e)
 refuses_kind words e long passes (inl memory) = rw memory tt

@@ -125,7 +125,7 @@ abbrev pub asked_where : Kinds → List Row → Option Asked
 asked_where [] rows = asked_by rows
 asked_where (fault ∷ faults) rows = None
 
--- the program's name alone, or no word, asks for a script on a store in memory; other words ask for what is matched
+-- only the program's name, or no word, asks for a script on a store in memory; other words ask for what is matched
 abbrev pub asked : List Text → Option Asked
 asked [] = Some (Shell in_memory)
 asked (name ∷ []) = Some (Shell in_memory)
@@ -138,7 +138,7 @@ fault_of_kind kind.DisplayHelp = fault.Help
 fault_of_kind kind.OutOfMemory = fault.NoMemory
 fault_of_kind _ = fault.Usage
 
--- what `clap` may answer the words with is told so
+-- what `clap` may return for the words is printed so
 abbrev pub Tells : List Text → WordsFault → Type 0
 Tells words why = (fault : ErrorKind) × IsAmong fault (fault_of command_app words) × (fault_of_kind fault ≡ why)
 

@@ -69,7 +69,7 @@ taken true false b = refl
 taken false c b = refl
 
 module _ (columns names : List (List ℕ)) (i : ℕ) (set : BTreeSet (Bor (List ℕ))) (name : Bor (List ℕ)) (within : i < length names) (here : get_or names i name.now ≡ name.now) (so : TakenSoFar columns names i set) where
-  -- a name that the set does not have is no column, or stood before
+  -- a name that the set does not have is no column, or came before
   pub misnamed : has_name set name.now ≡ false → AreColumns columns names → ⊥
   misnamed none fit =
       let is_column : Any (λ column. column ≡ name.now) columns = subst (λ n. Any (λ column. column ≡ n) columns) here (fit.known i name.now within) in

@@ -47,7 +47,7 @@ one_assigned = record {
   once = λ i j d below within. absurd (omega arith);
 }
 
--- SET b=1, b='y' is refused: a column stands twice
+-- SET b=1, b='y' is refused: a column is there twice
 twice_assigned : AreColumns table.columns (columns_of (b_is (Int (pos 1)) ∷ b_is y ∷ [])) → ⊥
 twice_assigned fit = fit.once 0 1 (codes "b") (omega arith) (omega arith) refl
 
@@ -90,8 +90,8 @@ keys_are_named :
     × (named_key table (a_is Null ∷ []) ≡ None)
 keys_are_named = (refl, refl)
 
--- SET b='y' makes (1, 'y') of (1, 'x'), which may stand in the table; with NULL in b it may not, and NULL in the key is
--- told first
+-- SET b='y' makes (1, 'y') of (1, 'x'), which may be in the table; with NULL in b it may not, and NULL in the key is
+-- reported first
 rows_are_assigned :
     (with_assigned (b_is y ∷ []) table.columns row ≡ Int (pos 1) ∷ y ∷ [])
     × (row_fault table (with_assigned (b_is y ∷ []) table.columns row) ≡ None)

@@ -83,7 +83,7 @@ with_assigned_all assignments (c ∷ columns) [] (suc i) e = absurd (omega arith
 with_assigned_all assignments (c ∷ columns) (v ∷ row) zero e = absurd (omega arith)
 with_assigned_all assignments (c ∷ columns) (v ∷ row) (suc i) e = ap (λ l. unwrap_or (assigned assignments c) v ∷ l) (with_assigned_all assignments columns row i (omega arith))
 
--- the value that stands in a column: the one that is assigned, or the former one
+-- the value of a column: the one that is assigned, or the former one
 pub lent_or : (o : Option (Bor OwnedValue)) (former : Bor OwnedValue) → (unwrap_or o former).now ≡ unwrap_or (option_map lent_value o) former.now
 lent_or None former = refl
 lent_or (Some value) former = refl

@@ -6,7 +6,7 @@ use Rattle.cs_value.specs.Key.{key_columns}
 use Rattle.cs_value.specs.State.{SchemaData}
 use Rattle.cs_shell_grammar.specs.Commands.{AssignmentData}
 
--- each of the names is that of a column, and none stands twice
+-- each of the names is that of a column, and none is there twice
 pub record AreColumns (columns names : List (List ℕ)) : Type 0 where
   pub known : All (λ name. Any (λ column. column ≡ name) columns) names
   pub once : AllPairs ◌≢◌ names
@@ -23,7 +23,7 @@ columns_of = map (λ a. a.column)
 abbrev pub key_names : SchemaData → List (List ℕ)
 key_names schema = key_columns schema.flags schema.columns
 
--- conditions name a row: each column of the key stands in one of them, and nothing else does
+-- conditions name a row: each column of the key is in one of them, and nothing else is
 pub record NamesKey (schema : SchemaData) (conditions : List AssignmentData) : Type 0 where
   pub columns : AreColumns (key_names schema) (columns_of conditions)
   pub each : All (λ name. Any (λ a. a.column ≡ name) conditions) (key_names schema)

@@ -18,7 +18,7 @@ behind_by true q r front rest behind all same blank inner = blank refl
 behind_by false true r front rest behind all same blank inner = rw same refl
 behind_by false false r front rest behind all same blank inner = rw same (inner refl)
 
--- what is behind the first word, where more follows the line
+-- what comes after the first word, if more follows the line
 behind_join : (front rest : List ℕ) → ends_word rest ≡ true → (words_of front ≡ [] → ⊥) → behind_word (front ++ rest) ≡ behind_word front ++ rest
 unfolding behind_word
 behind_join [] rest h some = absurd (some words_of-nil)

@@ -35,7 +35,7 @@ unfolding null_in
 null_taken [] ts' h = absurd (cc)
 null_taken (t ∷ ts) ts' h = let k = taken (is_null t) ts ts' h in ap (λ t. t ∷ ts) (is_null-is t k.0) ∙ ap (λ ts. Some (Value Null) ∷ ts) k.1
 
--- what is read behind a name is a comma, or NOT NULL and a comma
+-- what is read after a name is a comma, or NOT NULL and a comma
 rule_taken : (ts ts' : Tokens) (refuses : Bool) → rule_in ts ≡ Some (refuses, ts') → ts ≡ map Some (rule_tokens refuses) ++ ts'
 unfolding rule_in
 rule_taken [] ts' refuses h = absurd (cc)
@@ -81,7 +81,7 @@ column_long : (o : Option ColumnData) → 0 < length (map Some (column_tokens o)
 column_long None = omega arith
 column_long (Some c) = omega arith
 
--- so there are fewer tokens behind it
+-- so there are fewer tokens after it
 column_shorter : (ts ts' : Tokens) (o : Option ColumnData) → column_in ts ≡ Some (o, ts') → length ts' < length ts
 column_shorter ts ts' o h = omega (arith, ap length (column_taken ts ts' o h), length-append (map Some (column_tokens o)) ts', column_long o)
 
@@ -99,7 +99,7 @@ rule_again false rest = refl
 
 -- ---- further columns
 
--- what is behind a column is read alike, where the columns behind it are
+-- what comes after a column is read the same way if the later columns are
 alike_behind : (n m : ℕ) (ts : Tokens) (read : Option (Option ColumnData × Tokens)) → column_in ts ≡ read
     → ((o : Option ColumnData) (rest : Tokens) → length rest < length ts → columns_within o n rest ≡ columns_within o m rest)
     → and_then read (λ r. columns_within r.0 n r.1) ≡ and_then read (λ r. columns_within r.0 m r.1)
@@ -111,7 +111,7 @@ no_column_at_end : column_in [] ≡ None
 unfolding column_in
 no_column_at_end = refl
 
--- so no column stands behind the last token
+-- so no column comes after the last token
 none_at_end : (c : ColumnData) (n : ℕ) → columns_within (Some c) n [] ≡ None
 unfolding columns_within
 none_at_end c zero = refl
@@ -127,13 +127,13 @@ enough (suc n) zero (Some c) (t ∷ ts) p q = absurd (omega (arith, q))
 enough (suc n) (suc m) (Some c) (t ∷ ts) p q =
     ap (onto (c ∷ [])) (alike_behind n m (t ∷ ts) (column_in (t ∷ ts)) refl (λ o rest lt. enough n m o rest (omega (arith, lt, p)) (omega (arith, lt, q))))
 
--- what is behind a column is read whole, where as many may be read as there are tokens
+-- what comes after a column is read whole, if as many may be read as there are tokens
 all_behind : (n : ℕ) (ts : Tokens) (read : Option (Option ColumnData × Tokens)) → column_in ts ≡ read → length ts ≤ suc n
     → and_then read (λ r. columns_within r.0 n r.1) ≡ and_then read (λ r. columns_behind r.0 r.1)
 all_behind n ts None is le = refl
 all_behind n ts (Some r) is le = let lt = column_shorter ts r.1 r.0 is in enough n (length r.1) r.0 r.1 (omega (arith, lt, le)) (omega arith)
 
--- behind a column one more is read, or PRIMARY
+-- after a column one more is read, or PRIMARY
 columns_unfold : (c : ColumnData) (ts : Tokens) → columns_behind (Some c) ts ≡ onto (c ∷ []) (and_then (column_in ts) (λ r. columns_behind r.0 r.1))
 unfolding columns_within
 columns_unfold c [] = none_at_end c zero ∙ sym (ap (λ r. onto (c ∷ []) (and_then r (λ r. columns_behind r.0 r.1))) no_column_at_end)
@@ -160,7 +160,7 @@ pub no_column : (items : List ColumnData) (c : ColumnData) (rest : Tokens) (so_f
 no_column items c rest so_far is is_none =
     is ∙ ap (onto items) (columns_unfold c rest ∙ ap (λ r. onto (c ∷ []) (and_then r (λ r. columns_behind r.0 r.1))) is_none)
 
--- behind PRIMARY there is the rest
+-- after PRIMARY there is the rest
 pub columns_end : (items : List ColumnData) (rest : Tokens) (so_far : Option (List ColumnData × Tokens)) → so_far ≡ onto items (columns_behind None rest) → so_far ≡ Some (items, rest)
 unfolding columns_within
 columns_end items rest so_far is = is ∙ ap (λ xs. Some (xs, rest)) (append-nil items)
@@ -170,12 +170,12 @@ columns_end items rest so_far is = is ∙ ap (λ xs. Some (xs, rest)) (append-ni
 abbrev pub tokens_of_columns : List ColumnData → List Token
 tokens_of_columns cs = columns_tokens (map (λ c. c.name) cs) (map (λ c. c.refuses) cs)
 
--- the tokens behind a column are those of further ones and PRIMARY, and behind PRIMARY there is the rest
+-- the tokens after a column are those of further ones and PRIMARY, and after PRIMARY there is the rest
 abbrev AreBehind : Option ColumnData → Tokens → List ColumnData → Tokens → Type 0
 AreBehind None ts cs rest = ([] ≡ cs) × (ts ≡ rest)
 AreBehind (Some c) ts cs rest = (more : List ColumnData) × (c ∷ more ≡ cs) × (ts ≡ map Some (tokens_of_columns more) ++ Some (Fixed symbol.Primary) ∷ rest)
 
--- the tokens of a column, and those behind it, are those of columns and PRIMARY
+-- the tokens of a column, and the later ones, are those of columns and PRIMARY
 behind_spelled : (o : Option ColumnData) (ts : Tokens) (cs : List ColumnData) (rest : Tokens) → AreBehind o ts cs rest
     → map Some (column_tokens o) ++ ts ≡ map Some (tokens_of_columns cs) ++ Some (Fixed symbol.Primary) ∷ rest
 behind_spelled None ts cs rest (none, is) = ap (λ ts. Some (Fixed symbol.Primary) ∷ ts) is ∙ ap (λ cs. map Some (tokens_of_columns cs) ++ Some (Fixed symbol.Primary) ∷ rest) none
@@ -184,7 +184,7 @@ behind_spelled (Some c) ts cs rest (more, are, is) =
     ∙ ap (λ ts. Some (Name c.name) ∷ ts) (sym (map_some-append (rule_tokens c.refuses) (tokens_of_columns more) (Some (Fixed symbol.Primary) ∷ rest)))
     ∙ ap (λ cs. map Some (tokens_of_columns cs) ++ Some (Fixed symbol.Primary) ∷ rest) are
 
--- what is read behind a column is spelled so
+-- what is read after a column is spelled so
 within_taken : (o : Option ColumnData) (n : ℕ) (ts : Tokens) (cs : List ColumnData) (rest : Tokens) → columns_within o n ts ≡ Some (cs, rest) → AreBehind o ts cs rest
 unfolding columns_within
 within_taken None n ts cs rest h = some_pair ([], ts) (cs, rest) h
@@ -231,12 +231,12 @@ primary_again : (rest : Tokens) → column_in (Some (Fixed symbol.Primary) ∷ r
 unfolding column_in
 primary_again rest = refl
 
--- and behind it nothing is read
+-- and after it nothing is read
 none_again : (rest : Tokens) → columns_behind None rest ≡ Some ([], rest)
 unfolding columns_within
 none_again rest = refl
 
--- columns behind one are read as they are
+-- columns after one are read as they are
 behind_again : (c : ColumnData) (names : List (List ℕ)) (rules : List Bool) (rest : Tokens) → length rules ≡ length names
     → columns_behind (Some c) (map Some (columns_tokens names rules) ++ Some (Fixed symbol.Primary) ∷ rest) ≡ Some (c ∷ columns_with names rules, rest)
 behind_again c [] rules rest same =

@@ -154,7 +154,7 @@ words_of-join [] rest h = refl
 words_of-join (b ∷ front) rest h =
     join_by b (is_blank b) (ends_word front) (ends_word (front ++ rest)) (words_of front) (words_of rest) (words_of (front ++ rest)) (ends_join front rest h) (words_of-join front rest h) (not_ended front)
 
--- what is behind the first word has the other words
+-- the text after the first word has the other words
 abbrev pub tail : List (List ℕ) → List (List ℕ)
 tail [] = []
 tail (word ∷ words) = words

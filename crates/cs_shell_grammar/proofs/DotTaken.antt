@@ -154,7 +154,7 @@ apply_taken ws c h =
 
 -- ---- `.session`
 
--- a line is its first word, with blanks in front, and what is behind it
+-- a line is its first word, with blanks in front, and the text after it
 record IsSplit (line : List ℕ) : Type 0 where
   front : List ℕ
   word : List ℕ

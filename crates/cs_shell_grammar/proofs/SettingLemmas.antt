@@ -171,7 +171,7 @@ AreNew s xs = AllByRecursion (λ x. at s x ≡ None) xs
 abbrev AreOther : Setting → List Setting → Type 0
 AreOther x xs = AllByRecursion (λ y. option_of x ≢ option_of y) xs
 
--- each option stands at most once
+-- each option is there at most once
 abbrev pub AreApart : List Setting → Type 0
 AreApart xs = PairsByRecursion (λ x y. option_of x ≢ option_of y) xs
 
@@ -285,7 +285,7 @@ module _ {X : Type 0} (option : X → Setting) (default : X) (xs : List Setting)
 
 -- ---- the command
 
--- what `.apply` reads behind its slot
+-- what `.apply` reads after its slot
 pub apply_read : (slot : List ℕ) (xs : List Setting) (d n k r : Choice) (noop : Noop) → slot_in (slot ∷ map setting_text xs) ≡ Some (slot, map setting_text xs) → AllPairs (λ x y. option_of x ≢ option_of y) xs
     → IsChosen (ForKind kind.Data) choice.Abort xs d → IsChosen (ForKind kind.NotFound) choice.Abort xs n → IsChosen (ForKind kind.Conflict) choice.Abort xs k
     → IsChosen (ForKind kind.Constraint) choice.Abort xs r → IsChosen ForNoop Report xs noop

@@ -1,4 +1,4 @@
--- What the readers of lists of tokens accept: the tokens of a statement, and these alone.
+-- What the readers of lists of tokens accept: exactly the tokens of a statement.
 use Rattle.std.proofs.Common.{◌⊎◌, inl, inr, ◌≡◌, ◌≢◌, ℕ, List, [], ◌∷◌, ◌++◌, map, Option, Some, None, option_map, Bool, true, false, refl, sym, ap, subst, ◌∙◌, get_or}
 use Rattle.std.specs.Prelude.{if◌then◌else◌}
 use Rattle.std.proofs.lemmas.Bool.{eqb-true}
@@ -52,7 +52,7 @@ is_fixed-is s (Some (Name n)) h = absurd (cc)
 is_fixed-is s (Some (Value v)) h = absurd (cc)
 is_fixed-is s None h = absurd (cc)
 
--- what is behind a reader that accepts
+-- the rest after a reader that accepts
 pub then_some : {X Y : Type 0} (o : Option X) (next : X → Option Y) (y : Y) → and_then o next ≡ Some y → (x : X) × (o ≡ Some x) × (next x ≡ Some y)
 then_some None next y h = absurd (cc)
 then_some (Some x) next y h = (x, refl, h)

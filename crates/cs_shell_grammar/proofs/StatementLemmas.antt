@@ -22,7 +22,7 @@ pub onto-onto : {X : Type 0} (items more : List X) (read : Option (List X × Tok
 onto-onto items more None = refl
 onto-onto items more (Some r) = ap (λ xs. Some (xs, r.1)) (sym (append_assoc items more r.0))
 
--- a reader of items reads one, and what stands behind it
+-- a reader of items reads one, and what comes after it
 abbrev pub Unfolds : {X : Type 0} → (Tokens → Option (List X × Tokens)) → (Tokens → Option (X × Tokens)) → (Tokens → Option (Bool × Tokens)) → Type 0
 Unfolds read item turn = (tokens : Tokens) → read tokens ≡ and_then (item tokens) (λ r. and_then (turn r.1) (λ t. onto (r.0 ∷ []) (going t.0 t.1 (read t.1))))
 

@@ -1,4 +1,4 @@
--- The groups so far are behind the run.
+-- The run is past the groups so far.
 use Rattle.std.proofs.Common.{◌≡◌, true, take}
 use Rattle.std.specs.Fn.{FnReturnsAt}
 use Rattle.cs_apply_conflicts.specs.declared.conflict.Noop.TheVariants.{Report as Reported}

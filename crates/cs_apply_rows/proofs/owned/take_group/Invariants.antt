@@ -1,4 +1,4 @@
--- The entries so far are behind the run.
+-- The run is past the entries so far.
 use Rattle.std.proofs.Common.{◌≡◌, ◌≢◌, ◌+◌, ◌++◌, ◌∷◌, [], List, take, true}
 use Rattle.std.specs.List.{AllByRecursion}
 use Rattle.std.specs.Fn.{FnReturnsAt}

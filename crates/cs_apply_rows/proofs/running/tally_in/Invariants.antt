@@ -1,4 +1,4 @@
--- The tables so far are behind the run.
+-- The run is past the tables so far.
 use Rattle.std.proofs.Common.{◌≡◌, ◌≤◌, ◌-◌, length, true}
 use Rattle.std.specs.Fn.{FnReturnsAt}
 use Rattle.cs_apply_rows.specs.Tally.{is_listed}

@@ -1,4 +1,4 @@
--- The flags so far are numbered, and the others come behind the last number.
+-- The flags so far are numbered, and the others come after the last number.
 use Rattle.std.proofs.Common.{◌≡◌, ◌++◌, drop}
 use Rattle.cs_group.specs.Numbering.{numbered_behind, numbered_flags}
 use Rattle.cs_group.proofs.numbering.number_flags.Given as goal
