@@ -1,4 +1,4 @@
--- `transaction::Transaction::release`: the invariants of `store`, the clauses `undone` and `survives`.
+-- `transaction::Transaction::release`: the invariants of `store`, and what it ensures.
 use Rattle.std.proofs.Common.{subst, sym}
 use Rattle.std.specs.Prelude.{IfSome}
 use Rattle.sqlite.specs.Effect.{Database}
@@ -37,15 +37,28 @@ invariant_of-store g c =
           subst (λ (db : Database). IfSome c.store.inside.known (IsKnown (tables_in db))) (sym shown.now_is) (c.store.invariant.1 was),
     )
 
-pub returns-in-Err-clause-undone : goal.returns-in-Err-clause-undone
-returns-in-Err-clause-undone g c clean =
+pub returns-in-Err : goal.returns-in-Err
+returns-in-Err g c =
     let old = state g.S.Store c.store.inside.conn in
     let new = state g.S.Store c.release.new.conn in
     let has : HasCleanDisk old → HasMark old = rw (c.store.view_is, c.self.view_is) c.requires in
-    rw c.self.view_is at (rw c.store.view_is at (c.in-Err.ensures.undone (has (was_clean old new (c.release.ensures.survives has) clean)) clean))
+    let survives = c.release.ensures.survives has in
+    rw (← c.self.view_is, ← c.store.view_is) (record {
+      released = λ before db is clean. tt;
+      undone = λ clean. c.in-Err.ensures.undone (has (was_clean old new survives clean)) clean;
+      refused = c.in-Err.ensures.refused;
+      caused = λ clean. c.in-Err.ensures.caused (has (was_clean old new survives clean)) clean;
+      survives = survives;
+    })
 
-pub returns-in-Err-clause-survives : goal.returns-in-Err-clause-survives
-returns-in-Err-clause-survives g c =
+pub returns : goal.returns
+returns g c =
     let old = state g.S.Store c.store.inside.conn in
     let has : HasCleanDisk old → HasMark old = rw (c.store.view_is, c.self.view_is) c.requires in
-    rw c.self.view_is at (rw c.store.view_is at (c.release.ensures.survives has))
+    rw (← c.self.view_is, ← c.store.view_is) (record {
+      released = c.in-Ok.ensures.released;
+      undone = λ clean. tt;
+      refused = tt;
+      caused = λ clean. tt;
+      survives = c.release.ensures.survives has;
+    })
