@@ -1,20 +1,6 @@
--- `store::Store::tables`: what it ensures.
+-- `store::Store::tables`: the clause `reads`.
 use Rattle.cs_store_tables.proofs.FailureLemmas.{answered}
 use Rattle.cs_store.proofs.store.Store.tables.Goals as goal
 
-pub returns : goal.returns
-returns g c =
-    let sound = c.self.invariant.0 in
-    let found = c.list_tables.ensures in
-    let e = rw c.self.view_is at found in
-    record {
-      listed = rw c.self.view_is at (found.listed sound);
-      same = e.same;
-      refused = found.refused sound;
-      shut = e.shut;
-      caused = rw c.self.view_is at (found.caused sound);
-      named = e.named;
-      reads = λ clean is. answered c.list_tables.result _ e.named (e.reads clean) is;
-      rests = e.rests;
-      kept = e.kept;
-    }
+pub returns-clause-reads : goal.returns-clause-reads
+returns-clause-reads g c clean is = rw c.self.view_is at (answered c.list_tables.result _ c.list_tables.ensures.named (c.list_tables.ensures.reads clean) is)

@@ -1,4 +1,4 @@
--- `transaction::Transaction::declare`: the clauses `declared`, `refused`, `within` and `caused`.
+-- `transaction::Transaction::declare`: what it ensures.
 use Rattle.std.proofs.Common.{Bool, IsTrue, Ok, IfErr, true, inl, inr, ap, subst, ◌≡◌, ◌∙◌, rules}
 use Rattle.std.specs.Prelude.{OnOk}
 use Rattle.std.proofs.lemmas.Result.{IfErr-weaker, err_from_is_err_and, on_ok_weaker as on_ok_then}
@@ -15,6 +15,7 @@ use Rattle.cs_store_tables.specs.Laws.{was_clean}
 use Rattle.cs_store_tables.specs.Store.{AddsTable, tables_in}
 use Rattle.cs_store.specs.Within.{EndsCall}
 use Rattle.cs_store.proofs.DeclareLemmas.{added_declares, taken_is_declared}
+use Rattle.cs_store.proofs.FailureLemmas.{refused_on, undone_on}
 use Rattle.cs_store.proofs.WithinLemmas.{answered_goes_on, answered_inside, call_within, ended_within, leaves_inside, mark_there, marked_fails, release_fails, same_within, shown_on, unreleased_within}
 use Rattle.cs_store.proofs.transaction.Transaction.declare.Goals as goal
 
@@ -119,3 +120,27 @@ returns-clause-within g c =
     (subst (λ (s : SchemaData). OnOk r (AddsTable (tables_in marked.now) c.args.name.now s (tables_in mid.now))) made (c.add_table-result.ensures.declared clean)))
     (λ clean. answered_goes_on r _ (inside clean))
     (λ before db marks clean. subst (λ (b : Bool). EndsCall b before db mid new) c.is_ok.ensures.value (c.in_ok-end_call.ensures.ends before db marks clean))
+
+pub returns-in_err-mark-clause-declared : goal.returns-in_err-mark-clause-declared
+returns-in_err-mark-clause-declared g c clean = undone_on c.from_residual-in_err-mark.result _ _ c.from_residual-in_err-mark.ensures.1
+
+pub returns-in_err-mark-clause-refused : goal.returns-in_err-mark-clause-refused
+returns-in_err-mark-clause-refused g c clean = refused_on c.from_residual-in_err-mark.result _ c.in_err-mark.field-0.0 c.from_residual-in_err-mark.ensures.1 (inr c.in_err-mark.ensures.refused)
+
+pub returns-in_err-mark-clause-named : goal.returns-in_err-mark-clause-named
+returns-in_err-mark-clause-named g c = refused_on c.from_residual-in_err-mark.result _ c.in_err-mark.field-0.0 c.from_residual-in_err-mark.ensures.1 (inr (inr (inr c.in_err-mark.ensures.refused)))
+
+pub returns-in_err-mark-clause-over : goal.returns-in_err-mark-clause-over
+returns-in_err-mark-clause-over g c clean outside = refused_on c.from_residual-in_err-mark.result _ c.in_err-mark.field-0.0 c.from_residual-in_err-mark.ensures.1 (inr c.in_err-mark.ensures.refused)
+
+pub returns-in_err-end_call-clause-declared : goal.returns-in_err-end_call-clause-declared
+returns-in_err-end_call-clause-declared g c clean = undone_on c.from_residual-in_err-end_call.result _ _ c.from_residual-in_err-end_call.ensures.1
+
+pub returns-in_err-end_call-clause-refused : goal.returns-in_err-end_call-clause-refused
+returns-in_err-end_call-clause-refused g c clean = refused_on c.from_residual-in_err-end_call.result _ c.in_err-end_call.field-0.0 c.from_residual-in_err-end_call.ensures.1 (inr c.in_err-end_call.ensures.refused)
+
+pub returns-in_err-end_call-clause-named : goal.returns-in_err-end_call-clause-named
+returns-in_err-end_call-clause-named g c = refused_on c.from_residual-in_err-end_call.result _ c.in_err-end_call.field-0.0 c.from_residual-in_err-end_call.ensures.1 (inr (inr (inr c.in_err-end_call.ensures.refused)))
+
+pub returns-in_err-end_call-clause-over : goal.returns-in_err-end_call-clause-over
+returns-in_err-end_call-clause-over g c clean outside = refused_on c.from_residual-in_err-end_call.result _ c.in_err-end_call.field-0.0 c.from_residual-in_err-end_call.ensures.1 (inr c.in_err-end_call.ensures.refused)

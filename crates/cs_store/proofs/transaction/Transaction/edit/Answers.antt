@@ -1,4 +1,4 @@
--- `transaction::Transaction::edit`: the clauses `edited`, `refused`, `within` and `caused`.
+-- `transaction::Transaction::edit`: what it ensures.
 use Rattle.std.proofs.Common.{◌≡◌, ◌⊎◌, IsTrue, Ok, Err, IfErr, Vec, Global, Bool, true, inl, inr, subst}
 use Rattle.std.specs.Prelude.{IfOk, map}
 use Rattle.std.proofs.lemmas.Result.{err_from_is_err_and}
@@ -13,6 +13,7 @@ use Rattle.cs_store_tables.specs.Failing.{BatchFails, Writes}
 use Rattle.cs_store_tables.specs.Laws.{was_clean}
 use Rattle.cs_store_tables.specs.Store.{tables_in}
 use Rattle.cs_store.specs.Within.{EndsCall}
+use Rattle.cs_store.proofs.FailureLemmas.{refused_on, unaccepted}
 use Rattle.cs_store.proofs.WithinLemmas.{answered_goes_on, answered_inside, call_within, ended_within, makes_inside, mark_there, marked_fails, release_fails, shown_holds, unreleased_within}
 use Rattle.cs_store.proofs.transaction.Transaction.edit.Goals as goal
 
@@ -91,3 +92,27 @@ returns-clause-within g c =
     (λ clean. makes_inside r _ _ _ (λ w made. (map written_of w.items, made)) (answered_inside r _ (inside clean)) (c.edit_in-result.ensures.edited clean))
     (λ clean. answered_goes_on r _ (inside clean))
     (λ before db marks clean. subst (λ (b : Bool). EndsCall b before db mid new) c.is_ok.ensures.value (c.in_ok-end_call.ensures.ends before db marks clean))
+
+pub returns-in_err-mark-clause-edited : goal.returns-in_err-mark-clause-edited
+returns-in_err-mark-clause-edited g c clean = unaccepted c.from_residual.result _ _ c.from_residual.ensures.1
+
+pub returns-in_err-mark-clause-refused : goal.returns-in_err-mark-clause-refused
+returns-in_err-mark-clause-refused g c clean = refused_on c.from_residual.result _ c.in_err-mark.field-0.0 c.from_residual.ensures.1 (inr c.in_err-mark.ensures.refused)
+
+pub returns-in_err-mark-clause-named : goal.returns-in_err-mark-clause-named
+returns-in_err-mark-clause-named g c = refused_on c.from_residual.result _ c.in_err-mark.field-0.0 c.from_residual.ensures.1 (inr (inr (inr (inr (inr (inr (inr c.in_err-mark.ensures.refused)))))))
+
+pub returns-in_err-mark-clause-over : goal.returns-in_err-mark-clause-over
+returns-in_err-mark-clause-over g c clean outside = refused_on c.from_residual.result _ c.in_err-mark.field-0.0 c.from_residual.ensures.1 (c.in_err-mark.ensures.refused)
+
+pub returns-in_err-end_call-clause-edited : goal.returns-in_err-end_call-clause-edited
+returns-in_err-end_call-clause-edited g c clean = unaccepted c.from_residual-in_err-end_call.result _ _ c.from_residual-in_err-end_call.ensures.1
+
+pub returns-in_err-end_call-clause-refused : goal.returns-in_err-end_call-clause-refused
+returns-in_err-end_call-clause-refused g c clean = refused_on c.from_residual-in_err-end_call.result _ c.in_err-end_call.field-0.0 c.from_residual-in_err-end_call.ensures.1 (inr c.in_err-end_call.ensures.refused)
+
+pub returns-in_err-end_call-clause-named : goal.returns-in_err-end_call-clause-named
+returns-in_err-end_call-clause-named g c = refused_on c.from_residual-in_err-end_call.result _ c.in_err-end_call.field-0.0 c.from_residual-in_err-end_call.ensures.1 (inr (inr (inr (inr (inr (inr (inr c.in_err-end_call.ensures.refused)))))))
+
+pub returns-in_err-end_call-clause-over : goal.returns-in_err-end_call-clause-over
+returns-in_err-end_call-clause-over g c clean outside = refused_on c.from_residual-in_err-end_call.result _ c.in_err-end_call.field-0.0 c.from_residual-in_err-end_call.ensures.1 (c.in_err-end_call.ensures.refused)
