@@ -1,5 +1,4 @@
--- `owned::run_changeset_in`: the invariant of the loop at `group`, the clauses `caused`, `kept`,
--- `applied` and `refused`.
+-- `owned::run_changeset_in`: the invariant of the loop at `group`, and what it ensures.
 use Rattle.std.proofs.Common.{◌≡◌, ◌<◌, ◌+◌, ℕ, List, length, get_or, refl, ap, ◌∙◌}
 use Rattle.std.specs.Fn.{FnReturnsAt}
 use Rattle.std.proofs.lemmas.List.{take_all}
@@ -96,3 +95,27 @@ returns-in_err-tally-clause-refused g c = λ honest.
     _ c.in_err-tally.ensures).1 in
     let p = err_from_is_err_and c.from_residual-in_err-tally.result c.from_residual-in_err-tally.ensures.1 in
     rw (p.1, p.2) refused
+
+pub returns-in_err-take_group-clause-was_honest : goal.returns-in_err-take_group-clause-was_honest
+returns-in_err-take_group-clause-was_honest g c honest = (c.loop-group.invariant.5 (c.take_group.ensures.was_honest honest)).0
+
+pub returns-in_err-tally-clause-was_honest : goal.returns-in_err-tally-clause-was_honest
+returns-in_err-tally-clause-was_honest g c honest = (c.loop-group.invariant.5 honest).0
+
+pub returns-clause-was_honest : goal.returns-clause-was_honest
+returns-clause-was_honest g c honest = (c.loop-group.invariant.5 honest).0
+
+pub returns-clause-refused : goal.returns-clause-refused
+returns-clause-refused g c honest = tt
+
+pub returns-clause-caused : goal.returns-clause-caused
+returns-clause-caused g c honest = tt
+
+pub returns-clause-named : goal.returns-clause-named
+returns-clause-named g c = tt
+
+pub returns-clause-read : goal.returns-clause-read
+returns-clause-read g c = tt
+
+pub returns-clause-kept : goal.returns-clause-kept
+returns-clause-kept g c = c.loop-group.invariant.1
