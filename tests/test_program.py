@@ -241,7 +241,7 @@ class Files(ProgramTest):
         ))
 
     def test_out_is_the_old_file_or_the_new_one(self):
-        """What stands in OUT where the file that is written beside it cannot be, and where it can.
+        """What is in OUT if the file that is written next to it cannot be written, and if it can.
         """
         self.make("a.cs", INSERT)
         self.make("o.cs", b"old")
@@ -295,7 +295,7 @@ class Files(ProgramTest):
             self.assertEqual(os.listdir(folder), ["o.cs"])
 
     def test_out_is_no_plain_file(self):
-        """Bytes are written into a pipe as they are, behind what stands in the standard output, and
+        """Bytes are written into a pipe unchanged, after what is in the standard output, and
         not into a folder.
         """
         self.make("a.cs", INSERT)
@@ -381,7 +381,7 @@ class Scripts(ProgramTest):
         self.assertEqual(self.run_full(stdin=b".hex a"), (1, "", OUTPUT_FAULT))
 
     def test_line_of_ten_megabytes(self):
-        """A line of 10 MB is answered, and so is the one behind it."""
+        """A line of 10 MB is answered, and so is the next one."""
         text = "x" * 10_000_000
         for lines, printed in (
             (["-- " + text, ".hex a"], ""),
@@ -445,7 +445,7 @@ class Applies(StoreTest):
             self.assertEqual(self.read(), tables_of((1, "x")))
 
     def test_conflicts_abort(self):
-        """What stands in the table, the entries, and the kind of the conflict that ends the call.
+        """What is in the table, the entries, and the kind of the conflict that ends the call.
         """
         same = update((1, UNDEFINED), (UNDEFINED, UNDEFINED))
         for rows, entries, kind in (
@@ -494,7 +494,7 @@ class Applies(StoreTest):
         self.expect_refused(header("z", 1) + insert(1) + INSERT, "error 40 Wider 1\n")
 
     def expect_unprinted(self, run):
-        """Applies with a standard output that fails: the apply stands, and the store is closed."""
+        """Applies with a standard output that fails: the apply remains, and the store is closed."""
         self.write(tables_of())
         self.make("a.cs", INSERT)
         self.assertEqual(run("a.cs", "apply", "store"), (1, "", OUTPUT_FAULT))
@@ -752,7 +752,7 @@ class Rules(StoreTest):
                 self.expect_conflicts(rows, changeset, "constraint=omit" + others, [("constraint", "omit")])
 
     def test_rows_that_are_replaced(self):
-        """The conflict that is replaced is met first, and then that of the new row; the row stays
+        """The conflict that is replaced comes first, and then that of the new row; the row stays
         as it was.
         """
         for kind, rows, changeset in (
@@ -825,7 +825,7 @@ class Rules(StoreTest):
                 self.assertEqual(self.read(), refusing(*rows))
 
     def test_sessions(self):
-        """An apply whose entries are left is undone with the lines beside it."""
+        """An apply with entries that are left is undone with the other lines."""
         self.write(refusing((1, "x")))
         lines = [
             ".session open", ".session attach n", "UPDATE n SET b='y' WHERE a=1;", "UPDATE n SET b=NULL WHERE a=1;",
@@ -1007,7 +1007,7 @@ class Shells(StoreTest):
 
     @NEEDS_FULL
     def test_answers_that_are_not_written(self):
-        """Lines that were run stand, and the store is closed."""
+        """The effects of lines that were run remain, and the store is closed."""
         lines = "".join(line + "\n" for line in (CREATE, "INSERT INTO t VALUES(1, 'x');", "SELECT * FROM t;"))
         self.assertEqual(self.run_full("store", "shell", stdin=lines.encode()), (1, "", OUTPUT_FAULT))
         self.assertEqual(self.read_alone(), tables_of((1, "x")))
@@ -1133,7 +1133,7 @@ REFUSED = (
 
 
 def recorded_cases():
-    """The recorded files that are accepted, each with the tables before it and behind it."""
+    """The recorded files that are accepted, each with the tables before it and after it."""
     return json.loads((RECORDED / "rows.json").read_text(encoding="utf-8"))
 
 
@@ -1184,7 +1184,7 @@ class Recorded(StoreTest):
 
 
 def tables_after(case):
-    """The tables that SQLite had behind a recorded file."""
+    """The tables that SQLite had after a recorded file."""
     rows, name = [], ""
     for line in case["after"].split("\n")[:-1]:
         if line.startswith("table "):
@@ -1268,7 +1268,7 @@ class RecordedByLines(ProgramTest):
                     selects(after),
                     ([".session changeset b", ".session undo"], report),
                     selects(before),
-                    # What the session told does what the file did, and is undone, too.
+                    # What the session reported does what the file did, and is undone, too.
                     ([".apply b"], report),
                     selects(after),
                     ([".session undo", ".session close"], report),

@@ -29,7 +29,7 @@ SPOILERS = (
     b"X'", b"\xff", b"\xc3",
 )
 
-# Fields that may not stand everywhere, or nowhere.
+# Fields that are not allowed everywhere, or nowhere.
 FIELDS = (b"\x00", b"\x00", NULL, NULL, b"\x02" + bytes(8), b"\x06", b"\x03\x01\xff", b"\x03\x02\xc3", b"\x03\x01x")
 
 CHOICES = (b"omit", b"replace", b"abort")
@@ -119,7 +119,7 @@ class Maker:
         return operation, indirect, self.update(flags, row) if operation == UPDATE else [row]
 
     def group(self, flags, name, rows=()):
-        """A group of a table, of which some entries are of these rows, or of such with other
+        """A group of a table, with some entries of these rows, or of such with other
         values.
         """
         entries, keys = [], set()
@@ -178,7 +178,7 @@ class Maker:
         return other if any(other) else flags
 
     def widths(self, group):
-        """A group whose entries are of as many columns as its flags, and have their keys alone."""
+        """A group whose entries have as many columns as its flags, and only their keys."""
         flags, name, entries = group
         is_good = all(
             len(record) == len(flags) for _, _, records in entries for record in records
@@ -228,7 +228,7 @@ class Maker:
     # ---- damage
 
     def broken(self, groups):
-        """The file of groups in which one thing is not as it has to be, most times."""
+        """The file of groups with one thing that is wrong, most times."""
         groups = [
             [flags, name, [[operation, indirect, list(map(list, records))] for operation, indirect, records in entries]]
             for flags, name, entries in groups
@@ -253,7 +253,7 @@ class Maker:
         group[:2] = self.pick(((flags, group[1]), (group[0], self.pick((b"", b"\xff", b"\xed\xa0\x80")))))
 
     def break_once(self, groups, group):
-        """A table, or the key of an entry, stands twice; or a table has no entry."""
+        """A table, or the key of an entry, is there twice; or a table has no entry."""
         form = self.chance.randrange(3)
         if form == 0:
             groups.insert(self.chance.randrange(len(groups) + 1), group)
@@ -263,7 +263,7 @@ class Maker:
             group[2].clear()
 
     def damaged(self, file, other):
-        """A file in which a few things are not as they were; parts of another one may stand in it.
+        """A file with a few changes; parts of another one may be in it.
         """
         for _ in range(self.pick((1, 1, 1, 2, 3))):
             file = self.pick(DAMAGES)(self, file, other)
@@ -291,13 +291,13 @@ class Maker:
         return file[:at] if self.is_one_in(2) else file[:at] + file[at + self.upto(12):]
 
     def splice(self, file, other):
-        """A part of a file stands in the middle, or behind."""
+        """A part of a file is put in the middle, or at the end."""
         at, start = self.place(file), self.place(other)
         part = other[start:start + self.upto(40)]
         return file[:at] + part + (file[at:] if self.is_one_in(2) else b"")
 
     def join(self, file, other):
-        """Another file stands behind."""
+        """Another file is put at the end."""
         return file + (other if self.is_one_in(2) else file)
 
     def claim(self, file, _):
@@ -350,7 +350,7 @@ class Maker:
         return name, tables.get(name)
 
     def row_of(self, table):
-        """A row that stands in a table, or does not."""
+        """A row of a table, or one that it does not have."""
         rows = list(table.rows.values())
         return list(self.pick(rows)) if rows and not self.is_one_in(4) else self.row(table.flags)
 
@@ -452,7 +452,7 @@ class Maker:
         return self.pick((b" ", b"\t", b"  ", b"\r")).join((b"", line, b""))
 
     def spelled(self, line):
-        """A line that stands for this one."""
+        """A line that spells this one."""
         digits = line.hex().encode()
         return b".line " + self.pick((digits, digits, digits.upper(), digits + b"0", b"2e6c696e6520" + digits))
 

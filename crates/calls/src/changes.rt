@@ -13,13 +13,13 @@ const INSERTS: &[u8] =
 const UPDATE: &[u8] =
     b"T\x02\x01\x00t\x00\x17\x00\x03\x01k\x03\x01x\x00\x03\x01z\x12\x00\x03\x01m\x05";
 
-/// Reads a file, and tells how many bytes it is written with.
+/// Reads a file, and returns how many bytes it is written with.
 pub(crate) fn write_read(alloc: Global) -> Result<usize, ReadError> {
     let changeset = read(alloc, INSERTS)?;
     Ok(write(alloc, &changeset)?.len())
 }
 
-/// Goes through the first items of a file, copies each, and tells how many bytes names and keys have.
+/// Goes through the first items of a file, copies each, and returns how many bytes names and keys have.
 pub(crate) fn go_through(alloc: Global) -> Result<usize, ReadError> {
     let mut cursor = Cursor::new(alloc, INSERTS);
     let mut bytes = 0usize;
@@ -48,7 +48,7 @@ pub(crate) fn read_claim(alloc: Global) -> Result<usize, ReadError> {
     }
 }
 
-/// Copies the groups of a changeset, and tells how many bytes the copy is written with.
+/// Copies the groups of a changeset, and returns how many bytes the copy is written with.
 pub(crate) fn copy_groups(alloc: Global) -> Result<usize, ReadError> {
     let mut copies = Changeset::new(alloc);
     for group in read(alloc, INSERTS)?.groups() {
@@ -59,7 +59,7 @@ pub(crate) fn copy_groups(alloc: Global) -> Result<usize, ReadError> {
     Ok(write(alloc, &copies)?.len())
 }
 
-/// Adds an entry to the groups of a file that it fits, and tells how many entries all groups have.
+/// Adds an entry to the groups of a file that it fits, and returns how many entries all groups have.
 pub(crate) fn add_entry(alloc: Global) -> Result<usize, ReadError> {
     let entry = insertion(alloc, 1)?;
     let mut count = 0usize;
@@ -83,7 +83,7 @@ fn insertion(alloc: Global, number: i64) -> Result<Entry, NoMemory> {
     })
 }
 
-/// Makes a group of two entries, and tells how many it has.
+/// Makes a group of two entries, and returns how many it has.
 pub(crate) fn make_group(alloc: Global) -> Result<usize, NoMemory> {
     let flags = [1];
     if !Header::fits("t", &flags) {
@@ -104,19 +104,19 @@ pub(crate) fn make_group(alloc: Global) -> Result<usize, NoMemory> {
     Ok(group.entries().len())
 }
 
-/// Inverts a changeset, and tells how many bytes the inverse is written with.
+/// Inverts a changeset, and returns how many bytes the inverse is written with.
 pub(crate) fn invert_read(alloc: Global) -> Result<usize, ReadError> {
     let inverse = invert(alloc, read(alloc, UPDATE)?)?;
     Ok(write(alloc, &inverse)?.len())
 }
 
-/// Numbers the keys of a changeset, and tells how many bytes it is written with.
+/// Numbers the keys of a changeset, and returns how many bytes it is written with.
 pub(crate) fn number_read(alloc: Global) -> Result<usize, ReadError> {
     let numbered = number_keys(alloc, read(alloc, UPDATE)?)?;
     Ok(write(alloc, &numbered)?.len())
 }
 
-/// Joins two changesets, and tells how many bytes the join is written with.
+/// Concatenates two changesets, and returns how many bytes the result is written with.
 pub(crate) fn join_read(alloc: Global) -> Result<usize, ReadError> {
     let (first, second) = (read(alloc, INSERTS)?, read(alloc, UPDATE)?);
     match concat(alloc, &first, &second) {
@@ -126,7 +126,7 @@ pub(crate) fn join_read(alloc: Global) -> Result<usize, ReadError> {
     }
 }
 
-/// Merges the INSERT of a row and its DELETE, and tells whether nothing is left.
+/// Merges the INSERT of a row and its DELETE, and returns whether nothing is left.
 pub(crate) fn merge_two(alloc: Global) -> Result<usize, NoMemory> {
     let row = Row::new(vec![in alloc; OwnedValue::Int(1)]?);
     let first = Entry {

@@ -1,4 +1,4 @@
-//! Calls of the libraries that hosts make, most of which no line of a script does, for tests that refuse memory: each
+//! Calls of the libraries for tests that refuse memory. Hosts make them, and most are made by no line of a script. Each
 //! word names some, and they are made in turn. A line says what each answers, as a number, or that memory was refused.
 #![tactic(auto)]
 
@@ -12,7 +12,7 @@ use std::alloc::Global;
 use std::process::ExitCode;
 use std::{env, io};
 
-/// What is told of an answer: its number, or 1000 and the number of what it was refused with.
+/// What is printed of an answer: its number, or 1000 and the number of its refusal.
 pub(crate) fn told<E: Fault + Drop>(answer: Result<usize, E>) -> Result<usize, NoMemory> {
     match answer {
         Ok(number) => Ok(number),

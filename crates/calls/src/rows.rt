@@ -53,7 +53,7 @@ impl TestRows {
         Ok(0)
     }
 
-    /// Carries out an edit, and tells how many keys were written.
+    /// Carries out an edit, and returns how many keys were written.
     fn edit(&mut self, alloc: Global, edit: &Edit) -> Result<usize, StoreError> {
         Ok(edit_in(alloc, &mut self.rows, edit)?.len())
     }
@@ -80,7 +80,7 @@ impl TestRows {
         self.edit(alloc, &Edit::Delete { table, key })
     }
 
-    /// Applies a file, with what meets a conflict passed over, and tells how many keys were written.
+    /// Applies a file, with the entries that have a conflict passed over, and returns how many keys were written.
     pub(crate) fn apply(&mut self, alloc: Global) -> Result<usize, ApplyFault> {
         let handler = |_: &_| Choice::Omit;
         let report = run_in(

@@ -3,7 +3,7 @@
 use cs_value::{ImageFault, Key, NoMemory, OwnedValue, Row, image_read, image_write, row_write};
 use std::alloc::Global;
 
-/// Copies a row, and its key, and tells how many bytes both are spelled with.
+/// Copies a row, and its key, and returns how many bytes both are spelled with.
 pub(crate) fn copy_row(alloc: Global) -> Result<usize, NoMemory> {
     let row = Row::new(vec![in alloc; OwnedValue::Int(1), OwnedValue::Null]?);
     let copy = row.copy(alloc)?;
@@ -13,7 +13,7 @@ pub(crate) fn copy_row(alloc: Global) -> Result<usize, NoMemory> {
     Ok(out.len().saturating_add(key.bytes().len()))
 }
 
-/// Reads an image, copies it, and tells how many bytes it and its key are spelled with.
+/// Reads an image, copies it, and returns how many bytes it and its key are spelled with.
 pub(crate) fn copy_image(alloc: Global) -> Result<usize, ImageFault> {
     let (image, _) = image_read(alloc, b"\x03\x01k\x04\x02xy", 2)?;
     let copy = image.copy(alloc)?;

@@ -1,4 +1,4 @@
--- How the changes of a table stand to the table of that name: the interface of SQLite's session extension, under
+-- How the changes of a table relate to the table of that name: the interface of SQLite's session extension, under
 -- "sqlite3changeset_apply". There a table may have more columns than the changes; that this is refused is this
 -- project's own.
 use Rattle.std.specs.Prelude.{ℕ, zero, suc, nat_lt, Bool, true, false, if◌then◌else◌, List, [], ◌∷◌, length}

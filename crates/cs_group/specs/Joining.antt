@@ -1,4 +1,4 @@
--- The join of two changesets, the one of which is applied after the other: the interface of SQLite's session extension,
+-- The concatenation of two changesets, applied one after the other: the interface of SQLite's session extension,
 -- under "sqlite3changegroup_add" and "sqlite3changeset_concat". The order, and that an update which modifies nothing is
 -- left out, are this project's own.
 use Rattle.std.specs.Prelude.{◌≡◌, ℕ, ◌<◌, ◌&&◌, nat_eq, Bool, true, false, if◌then◌else◌}

@@ -24,8 +24,8 @@ use std::alloc::Global;
 /// `cs_apply_conflicts`). A changeset and its inverse make an empty one.
 ///
 /// The tables of `first` come first, in their order and with their headers, and then those that only `second` has. The
-/// same goes for the keys of a table. Two entries of one key are merged ([`merge`]). Entries and tables of which
-/// nothing remains are left out. The file is at most as long as both files.
+/// same goes for the keys of a table. Two entries of one key are merged ([`merge`]). Entries without
+/// a change, and tables without an entry, are left out. The file is at most as long as both files.
 ///
 /// # Errors
 ///

@@ -135,7 +135,7 @@ impl MemRows {
         let _ = &self.tables;
     }
 
-    /// Declares a table without rows: the names of its columns, of which those marked in `keys` are the key, and
+    /// Declares a table without rows: the names of its columns; those marked in `keys` are the key, and
     /// those of the key and those marked in `refuses` refuse NULL.
     ///
     /// Refuses with [`BadSchema`](StoreError::BadSchema) where the name or the columns make no table,

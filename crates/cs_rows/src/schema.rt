@@ -44,7 +44,7 @@ impl Model for Schema {
 }
 
 impl Schema {
-    /// Makes the schema of columns with these names, of which those marked in `keys` are the key, and those of
+    /// Makes the schema of columns with these names; those marked in `keys` are the key, and those of
     /// the key and those marked in `refuses` refuse NULL.
     ///
     /// Refuses with `BadSchema` where they make none: there is no column or more than

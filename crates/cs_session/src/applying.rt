@@ -23,8 +23,8 @@ use cs_store::{Rows, Store};
 use sqlite::Alter;
 use std::alloc::Global;
 
-/// Applies a file, or its inverse, in a batch of a store, notes the keys that were written, and commits the batch. After
-/// a refusal the kept notes are as before.
+/// Applies a file, or its inverse, in a batch of a store, notes the keys that were written, and commits the batch.
+/// After a refusal the kept notes are as before.
 pub(crate) fn apply_batch<S: Alter, H: Fn(&Conflict) -> Choice>(
     alloc: Global,
     tables: &mut AttachedTables,

@@ -73,15 +73,15 @@ impl Session {
         are_unwritten(self.tables.as_slice())
     }
 
-    /// What a session remembers is well formed: no table stands in it twice, no key of a table twice, and
-    /// each row could stand in its table. It has no effect.
+    /// Has no effect. Its contract says that what a session remembers is well formed: it has no table twice, no key
+    /// of a table twice, and each row fits its table.
     pub fn notes_law(&self)
         ensures { IsNotes self.now }
     {
         let _ = &self.tables;
     }
 
-    /// Attaches a table of a store, of which nothing is noted yet.
+    /// Attaches a table of a store, after the others. Nothing is noted of it yet.
     ///
     /// Refuses with [`AlreadyAttached`](SessionFault::AlreadyAttached), and then with
     /// [`NoTable`](StoreError::NoTable), and with `StoreFault` if the database refuses. A refusal changes nothing.
@@ -121,13 +121,15 @@ impl Session {
         self.push(alloc, name, schema)
     }
 
-    /// Carries out an edit, and notes the keys that it wrote where their table is attached, with the rows
-    /// that stood there, each at its first write. The edit is committed.
+    /// Carries out an edit, and notes the keys that it wrote where their table is attached, with the previous rows,
+    /// each at its first write. The edit is committed.
     ///
-    /// Refuses with [`WrongStore`](SessionFault::WrongStore) where the table is attached and the store
-    /// has not the table as it was, and then as [`Store::edit`] does. A refusal changes nothing. A crash
-    /// leaves the tables as before, or as edited; once this is done, these alone, and once it is refused and
-    /// the store is open still, those alone.
+    /// # Errors
+    ///
+    /// [`WrongStore`](SessionFault::WrongStore) if the table is attached and the store does not have it as it was,
+    /// and then those of [`Store::edit`]. A refusal changes nothing. A crash leaves the tables as before, or as
+    /// edited: only the latter once the call is done, and only the former once it is refused and the store is still
+    /// open.
     pub fn edit<S: Alter>(
         &mut self,
         alloc: Global,
@@ -157,13 +159,14 @@ impl Session {
         result
     }
 
-    /// Applies the changeset of a file in one transaction, as [`apply`](cs_apply::apply) does, and notes
-    /// the keys that were written where their table is attached.
+    /// Applies the changeset of a file in one transaction, as [`apply`](cs_apply::apply) does, and notes the keys that
+    /// were written where their table is attached.
     ///
-    /// Refuses with [`WrongStore`](SessionFault::WrongStore) where the store has not one of the tables as
-    /// it was attached, and then as `apply` does. A refusal changes nothing. A crash leaves the tables as
-    /// before, or as applied; once this is done, these alone, and once it is refused and the store is open
-    /// still, those alone.
+    /// # Errors
+    ///
+    /// [`WrongStore`](SessionFault::WrongStore) if the store does not have each table as it was attached, and then
+    /// those of `apply`. A refusal changes nothing. A crash leaves the tables as before, or as applied: only the
+    /// latter once the call is done, and only the former once it is refused and the store is still open.
     pub fn apply_recorded<S: Alter, H: Fn(&Conflict) -> Choice>(
         &mut self,
         alloc: Global,
@@ -210,14 +213,14 @@ impl Session {
         result
     }
 
-    /// Applies the inverse of the changeset of a file in one transaction, as [`revert`](cs_apply::revert) does, and notes
-    /// the keys that were written where their table is attached. It aborts at the first conflict.
+    /// Applies the inverse of the changeset of a file in one transaction, as [`revert`](cs_apply::revert) does, and
+    /// notes the keys that were written where their table is attached. It aborts at the first conflict.
     ///
     /// # Errors
     ///
-    /// [`WrongStore`](SessionFault::WrongStore) if the store does not have each table as it was attached, and then those
-    /// of `revert`. A refusal changes nothing. A crash leaves the tables as before, or as reverted: only the latter once
-    /// the call is done, and only the former once it is refused and the store is still open.
+    /// [`WrongStore`](SessionFault::WrongStore) if the store does not have each table as it was attached, and then
+    /// those of `revert`. A refusal changes nothing. A crash leaves the tables as before, or as reverted: only the
+    /// latter once the call is done, and only the former once it is refused and the store is still open.
     pub fn revert<S: Alter>(
         &mut self,
         alloc: Global,
@@ -262,12 +265,13 @@ impl Session {
         result
     }
 
-    /// The net changeset: for each key that was written the change from the row that stood there first to
-    /// the row that stands there now, if these differ. Tables stand in the order in which they were
-    /// attached, the keys of a table in that of their first write.
+    /// Returns the net changeset: for each written key the change from its first row to the current one, if these
+    /// differ. Tables are in the order in which they were attached, the keys of a table in that of their first write.
     ///
-    /// Refuses with [`WrongStore`](SessionFault::WrongStore) where the store has not one of the tables as
-    /// it was attached, and with `StoreFault` if a transaction is open or the database refuses. Nothing changes.
+    /// # Errors
+    ///
+    /// [`WrongStore`](SessionFault::WrongStore) if the store does not have each table as it was attached, and
+    /// `StoreFault` if a transaction is open or the database refuses. Nothing changes.
     pub fn changeset<S: Alter>(
         &self,
         alloc: Global,
@@ -295,13 +299,15 @@ impl Session {
         net_changeset(alloc, &mut batch, self.tables.as_slice())
     }
 
-    /// Gives the attached tables the rows from before back, by the inverse of the net changeset, in one
-    /// transaction. What is noted stays.
+    /// Restores the rows that the attached tables had, by the inverse of the net changeset, in one transaction. What is
+    /// noted stays.
     ///
-    /// Refuses with [`WrongStore`](SessionFault::WrongStore) where the store has not one of the tables as
-    /// it was attached, and with `StoreFault` if a transaction is open or the database refuses. A refusal
-    /// changes nothing. A crash leaves the tables as before, or as undone; once
-    /// this is done, these alone, and once it is refused and the store is open still, those alone.
+    /// # Errors
+    ///
+    /// [`WrongStore`](SessionFault::WrongStore) if the store does not have each table as it was attached, and
+    /// `StoreFault` if a transaction is open or the database refuses. A refusal changes nothing. A crash leaves the
+    /// tables as before, or as undone: only the latter once the call is done, and only the former once it is refused
+    /// and the store is still open.
     pub fn undo<S: Alter>(
         &self,
         alloc: Global,

@@ -31,14 +31,14 @@ use sqlite::Alter;
 use std::alloc::Global;
 
 impl Session {
-    /// Carries out an edit in a transaction, as [`Transaction::edit`] does, and notes the keys that it wrote where their
-    /// table is attached.
+    /// Carries out an edit in a transaction, as [`Transaction::edit`] does, and notes the keys that it wrote where
+    /// their table is attached.
     ///
     /// # Errors
     ///
-    /// [`WrongStore`](SessionFault::WrongStore) if the table is attached and the transaction does not show it as it was,
-    /// and then those of [`Transaction::edit`]. A refusal notes nothing. After it the transaction shows what it showed
-    /// before; or the error is `StoreFault`, `NoMemory` or `DamagedStore`, and it has ended.
+    /// [`WrongStore`](SessionFault::WrongStore) if the table is attached and the transaction does not show it as it
+    /// was, and then those of [`Transaction::edit`]. A refusal notes nothing. After it the transaction shows what it
+    /// showed before; or the error is `StoreFault`, `NoMemory` or `DamagedStore`, and it has ended.
     pub fn edit_in_transaction<S: Alter + Drop>(
         &mut self,
         alloc: Global,
@@ -73,8 +73,8 @@ impl Session {
     ///
     /// # Errors
     ///
-    /// [`WrongStore`](SessionFault::WrongStore) if the transaction does not show each table as it was attached, and then
-    /// those of `apply_in_transaction`. A refusal leaves what one of
+    /// [`WrongStore`](SessionFault::WrongStore) if the transaction does not show each table as it was attached, and
+    /// then those of `apply_in_transaction`. A refusal leaves what one of
     /// [`edit_in_transaction`](Session::edit_in_transaction) leaves.
     pub fn apply_in_transaction<S: Alter + Drop, H: Fn(&Conflict) -> Choice>(
         &mut self,
@@ -121,8 +121,8 @@ impl Session {
     }
 
     /// Applies the inverse of the changeset of a file in a transaction, as
-    /// [`revert_in_transaction`](cs_apply::revert_in_transaction) does, and notes the keys that were written where their
-    /// table is attached. It aborts at the first conflict.
+    /// [`revert_in_transaction`](cs_apply::revert_in_transaction) does, and notes the keys that were written where
+    /// their table is attached. It aborts at the first conflict.
     ///
     /// # Errors
     ///

@@ -1,4 +1,4 @@
-//! The rows from before, given back.
+//! The rows from before, restored.
 ghost use Rattle.std.specs.Prelude.{◌≡◌, map, IfOk, IfErr, is_ok};
 ghost use Rattle.cs_value.specs.State.{IsState};
 ghost use Rattle.cs_session_notes.specs.FirstImages.{IsNotes};

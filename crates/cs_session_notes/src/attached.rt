@@ -33,7 +33,7 @@ pub fn are_unwritten(tables: &[Attached]) -> bool
 /// Whether a key that was written in a table is noted there already.
 ///
 /// Refuses with [`NoMemory`](SessionFault::NoMemory), and with
-/// [`DamagedStore`](cs_rows::StoreError::DamagedStore) for a former row that cannot have stood there.
+/// [`DamagedStore`](cs_rows::StoreError::DamagedStore) for a previous row that cannot be of the table.
 pub fn is_noted(
     alloc: Global,
     table: &Attached,
@@ -49,7 +49,7 @@ pub fn is_noted(
     Ok(table.firsts.has_key(key))
 }
 
-/// Notes a key that was not written in a table before, and the row that stood there.
+/// Notes a key that was not written in a table before, and its previous row.
 pub fn note_write(table: &mut Attached, key: Key, former: Option<Row>) -> Result<(), NoMemory>
     requires { is_some (first_at (attached_of table.old).firsts key) ≡ false }
     ensures noted { OnOk result (attached_of table.new ≡ with_write (attached_of table.old) key former) }

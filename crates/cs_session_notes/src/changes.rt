@@ -18,8 +18,8 @@ use cs_value::{Key, Row};
 use cs_wire::{Change, Changeset, Entry, Group, Header};
 use std::alloc::Global;
 
-/// The net changeset of tables that are attached: the changes from the rows that stood first under the
-/// keys that were written to those that stand there now.
+/// The net changeset of tables that are attached: the changes from the first rows under the
+/// keys that were written to the current ones.
 ///
 /// Refuses with [`WrongStore`](SessionFault::WrongStore) where one of the tables is not there as it
 /// was attached.
@@ -111,7 +111,7 @@ fn table_entries<B: Rows>(
     Ok(entries)
 }
 
-/// The change from the row that stood first under a key to that which stands there now, if these differ.
+/// The change from the first row of a key to the current one, if these differ.
 fn row_change<B: Rows>(
     alloc: Global,
     rows: &mut B,

@@ -1,4 +1,4 @@
-//! Whether a store has the tables that are attached, and rows that can stand in them.
+//! Whether a store has the tables that are attached, and rows that fit them.
 ghost use Rattle.std.specs.Prelude.{◌≡◌, ◌⊎◌, map, IsTrue, ◌↔◌, OnOk, IfErr, IfSome, is_ok};
 ghost use Rattle.cs_value.specs.State.{IsRowAt};
 ghost use Rattle.cs_session_notes.specs.declared.fault.SessionFault.TheVariants.{NoMemory as OutOfMemory};
@@ -88,7 +88,7 @@ fn is_same(schema: &Schema, other: &Schema) -> bool
         && schema.refuses() == other.refuses()
 }
 
-/// Refuses a row that cannot stand under the key in a table of this schema.
+/// Refuses a row that cannot be under the key in a table of this schema.
 pub fn check_row(
     alloc: Global,
     schema: &Schema,

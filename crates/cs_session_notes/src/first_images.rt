@@ -1,4 +1,4 @@
-//! The first images of a table: what stood under each key that was written, when it was written first.
+//! The first images of a table: the row of each written key before its first write.
 ghost use Rattle.std.specs.Prelude.{◌≡◌, ◌==◌, [], ◌++◌, length, is_some, false, OnErr, OnOk};
 ghost use Rattle.cs_session_notes.specs.FirstImages.{first_at};
 ghost use Rattle.cs_session_notes.specs.Images.{with_first};
@@ -10,7 +10,7 @@ use std::alloc::Global;
 use std::marker::Model;
 
 /// The keys of a table that were written, each once, in the order of the first write, and the row that
-/// stood under each first, or none. Those behind the last commit can be cut back.
+/// was under each first, or none. Those after the last commit can be cut off.
 #[derive(Debug, Drop)]
 pub struct FirstImages {
     firsts: IndexMap<Key, Option<Row>>,
@@ -47,7 +47,7 @@ impl FirstImages {
         }
     }
 
-    /// The keys, each with its row, and with those behind the last commit.
+    /// The keys, each with its row, and with those after the last commit.
     pub fn iter(&self) -> Iter<'_, Key, Option<Row>>
         ensures { map first_of result ≡ self.now.kept ++ self.now.pending }
     {

@@ -62,7 +62,7 @@ impl AttachedTables {
         &self.tables
     }
 
-    /// Where the table with this name stands, if one has it.
+    /// The index of the table with this name, if one has it.
     pub fn index_of(&self, name: &str) -> Option<usize>
         ensures found { IfSome result (IsIndexOf self.now name.now) }
         ensures none { IfNone result (IsNewTable (map attached_of self.now) name.now) }
@@ -70,7 +70,7 @@ impl AttachedTables {
         self.names.get_index_of(name)
     }
 
-    /// Attaches a table that is not attached, behind the others. [`NoMemory`] changes nothing.
+    /// Attaches a table that is not attached, after the others. [`NoMemory`] changes nothing.
     pub fn push(&mut self, alloc: Global, name: &str, schema: Schema) -> Result<(), NoMemory>
         requires { IsNewTable (map attached_of self.old) name.now }
         ensures pushed { OnOk result (map attached_of self.new ≡ map attached_of self.old

@@ -30,7 +30,7 @@ fn operand<'a>(alloc: Global, name: &'a str) -> Arg<'a>
     Arg::new(alloc, name).required(true)
 }
 
-/// The operands behind those, of any number.
+/// The operands after those, any number.
 fn other_operands<'a>(alloc: Global) -> Arg<'a>
     ensures rule { rule_of result ≡ rest_rule }
     ensures local { result.global ≡ false }

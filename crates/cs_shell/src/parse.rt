@@ -13,10 +13,10 @@ use cs_apply_rows::{Choice, Policy};
 use cs_shell_grammar::choice_name;
 use std::alloc::Global;
 
-/// What the words of a command line ask for, the program's name first. With no word behind the name that
-/// is a script on a store in memory.
+/// What the words of a command line ask for, the program's name first. The name only asks for a script on a
+/// store in memory.
 ///
-/// Options may stand before, between and behind the operands, as `--data C` or `--data=C`, and as `--ignore-noop`,
+/// Options may be before, between and after the operands, as `--data C` or `--data=C`, and as `--ignore-noop`,
 /// which takes no word, each once; what follows `--` is an operand. Options have no effect on other commands than
 /// `apply`, but their choices have to be some.
 ///

@@ -15,7 +15,7 @@ use std::collections::BTreeSet;
 
 /// For each column whether it is one of the key.
 ///
-/// Refuses with [`UnknownColumn`] where a name of the key is that of no column, or stands twice.
+/// Refuses with [`UnknownColumn`] if a name of the key is that of no column, or is there twice.
 pub fn key_marks(
     alloc: Global,
     columns: &[String],
@@ -69,7 +69,7 @@ pub fn check_conditions(
     }
 }
 
-/// The columns that are none of the names. Refuses where a name is that of no column, or stands twice.
+/// The columns that are none of the names. Refuses if a name is that of no column, or is there twice.
 fn without<'a>(
     alloc: Global,
     columns: &[&'a str],

@@ -4,7 +4,7 @@ ghost use Rattle.std.specs.Prelude.{codes};
 use cs_value::{Fault, OrNoMemory};
 use thiserror::Error;
 
-/// A name is that of no column, or stands twice, or is missing.
+/// A name is that of no column, or is there twice, or is missing.
 #[derive(Clone, Copy, Debug, PartialEq, Eq, Drop, Error)]
 #[error("the names do not fit the columns")]
 pub struct UnknownColumn;

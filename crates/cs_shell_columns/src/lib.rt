@@ -9,7 +9,7 @@
 //! let row = assign(alloc, &schema, &sets, &former)?;
 //! ```
 //!
-//! `columns` tells which columns a key has, and checks the columns of assignments and of conditions. `rows` makes
+//! `columns` has the columns of a key, and checks the columns of assignments and of conditions. `rows` makes
 //! the key that conditions name, and the row that assignments make. `names` has the names that both look up,
 //! and `fault` what is refused.
 #![tactic(auto)]

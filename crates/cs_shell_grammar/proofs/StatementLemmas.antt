@@ -64,7 +64,7 @@ turned : {X : Type 0} (x : X) (m : Option Bool) (ts : Tokens) (read : Tokens →
 turned x None ts read = refl
 turned x (Some m) ts read = refl
 
--- an item, and what stands behind it
+-- an item, and what comes after it
 read_on : {X : Type 0} (between last : Symbol) (o : Option X) (u : Option Token) (ts : Tokens) (read : Tokens → Option (List X × Tokens))
     → and_then o (λ x. and_then (turn_of between last u) (λ more. onto (x ∷ []) (going more ts (read ts))))
     ≡ and_then {X = X × Tokens} (option_map (λ x. (x, u ∷ ts)) o) (λ r. and_then (turn_in between last r.1) (λ t. onto (r.0 ∷ []) (going t.0 t.1 (read t.1))))
@@ -72,7 +72,7 @@ unfolding turn_in
 read_on between last None u ts read = refl
 read_on between last (Some x) u ts read = turned x (turn_of between last u) ts read
 
--- an item, and nothing behind it
+-- an item, and nothing after it
 read_last : {X : Type 0} (between last : Symbol) (o : Option X) (read : Tokens → Option (List X × Tokens))
     → None ≡ and_then {X = X × Tokens} (option_map (λ x. (x, [])) o) (λ r. and_then (turn_in between last r.1) (λ t. onto (r.0 ∷ []) (going t.0 t.1 (read t.1))))
 unfolding turn_in

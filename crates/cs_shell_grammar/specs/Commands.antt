@@ -57,7 +57,7 @@ joined between (item ∷ next ∷ items) = item ++ between ∷ joined between (n
 abbrev pub assignment : AssignmentData → List Token
 assignment a = Name a.column ∷ Fixed Equals ∷ Value a.value ∷ []
 
--- what stands behind a column: NOT NULL where it says so, and a comma
+-- what comes after a column: NOT NULL if it says so, and a comma
 abbrev pub rule_tokens : Bool → List Token
 rule_tokens true = Fixed NOT ∷ Value Null ∷ Fixed Comma ∷ []
 rule_tokens false = Fixed Comma ∷ []
@@ -131,8 +131,8 @@ abbrev pub IsChosen : {X : Type 0} → (X → Setting) → X → List Setting �
 IsChosen {X} option default settings value = Contains settings (option value)
     ⊎ ((value ≡ default) × ((other : X) → Contains settings (option other) → ⊥))
 
--- the words are the dot line's, of which digits are any text; `.session attach`, which a name follows, is no matter of
--- words alone
+-- the words are the dot line's, whose digits are any text; `.session attach`, which a name follows, is not decided by
+-- words only
 abbrev pub IsDotLine : List (List ℕ) → CommandData → Type 0
 IsDotLine words (Load slot digits) = IsSlot slot × IsUtf8 digits
     × ((words ≡ codes ".load" ∷ slot ∷ digits ∷ []) ⊎ ((words ≡ codes ".load" ∷ slot ∷ []) × (digits ≡ [])))

@@ -109,7 +109,7 @@ with_first read (word ∷ words) rest = read word rest
 unfoldable pub session_in : List ℕ → Option CommandData
 session_in line = with_first session_of (words_of line) (behind_word line)
 
--- a dot line, by its first word and what is behind it
+-- a dot line, by its first word and the text after it
 unfoldable pub dot_of : List ℕ → List ℕ → Option CommandData
 dot_of word rest =
     if bytes_eq word (codes ".load") then load_in (words_of rest)

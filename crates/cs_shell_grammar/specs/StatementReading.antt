@@ -32,16 +32,16 @@ value_of_token (Some (Name name)) = None
 value_of_token (Some (Value value)) = Some value
 value_of_token None = None
 
--- whether the token stands between items, or ends them
+-- whether the token is between items, or ends them
 abbrev pub turn_of : Symbol → Symbol → Option Token → Option Bool
 turn_of between last token =
     if is_fixed between token then Some true else if is_fixed last token then Some false else None
 
--- a list of tokens, of which those that are read are taken
+-- a list of tokens, from which those that are read are taken
 abbrev pub Tokens : Type 0
 Tokens = List (Option Token)
 
--- what the first token is, and the tokens behind it
+-- what the first token is, and the later tokens
 abbrev pub first_in : {X : Type 0} → (Option Token → Option X) → Tokens → Option (X × Tokens)
 first_in item [] = None
 first_in item (t ∷ ts) = option_map (λ x. (x, ts)) (item t)
@@ -130,13 +130,13 @@ rule_in (t ∷ ts) = if is_fixed symbol.Comma t then Some (false, ts)
     else if is_fixed symbol.Not t then and_then (null_in ts) (λ ts. option_map (λ ts. (true, ts)) (fixed_in symbol.Comma ts))
     else None
 
--- a column and what is behind it, or PRIMARY
+-- a column and what comes after it, or PRIMARY
 unfoldable pub column_in : Tokens → Option (Option ColumnData × Tokens)
 column_in [] = None
 column_in (t ∷ ts) = if is_fixed symbol.Primary t then Some (None, ts)
     else and_then (name_of t) (λ n. option_map (λ r. (Some (column_with n r.0), r.1)) (rule_in ts))
 
--- the columns up to PRIMARY, as many as that at most, behind one that was read; where PRIMARY was, none
+-- the columns up to PRIMARY, at most as many as that, after one that was read; none at PRIMARY
 unfoldable pub columns_within : Option ColumnData → ℕ → Tokens → Option (List ColumnData × Tokens)
 columns_within None n tokens = Some ([], tokens)
 columns_within (Some column) zero tokens = None

@@ -29,7 +29,7 @@ ignored_text (suc count) = counted_text (codes "ignored ") (suc count)
 unfoldable pub count_text : ℕ → List ℕ
 count_text count = counted_text (codes "applied ") count
 
--- what is told of an apply: the tables that were passed over, the conflicts with what was chosen for them, and how many
+-- what is reported of an apply: the tables that were passed over, the conflicts with their choices, and how many
 -- entries were ignored and how many carried out
 pub record ReportData : Type 0 where
   pub skipped : List (List ℕ)

@@ -31,13 +31,13 @@ works_on Gives More old new slots before after reply works weaker =
     turns_weaker (Gave before after More reply) (GaveOn slots slots before after Gives reply) old new (λ t u work here.
     let done = work here in (done.0, or_weaker Gives More (seen t slots before) reply (seen u slots after) (weaker t (seen u slots after)) (done.1 slots))) works
 
--- a command on slots alone
+-- a command on only the slots
 pub works_on_slots : (command : CommandData) (store : State) (slots filled : SlotMap) (session : Option Notes) (reply : Reply) → SlotsGive slots command reply filled
     → WorksOn store store slots filled session session (λ old. CommandGives old command) reply
 works_on_slots command store slots filled session reply gives =
     turns_still (GaveOn slots filled session session (λ old. CommandGives old command) reply) store (λ t here. (here, inl (on_slots command reply filled gives)))
 
--- a command on the session alone
+-- a command on only the session
 pub works_beside : (Gives : ShellState → Reply → ShellState → Type 0) (store : State) (slots : SlotMap) (before after : Option Notes) (reply : Reply)
     → ((t : Tables) → IsHere t before → IsHere t after) → ((t : Tables) → OrUnable Gives (seen t slots before) reply (seen t slots after))
     → WorksOn store store slots slots before after Gives reply

@@ -84,7 +84,7 @@ no_digits_are_loaded slots = loaded slots (codes "b") [] [] refl
 
 -- what lines give
 
--- slots alone: there is no table, and no session is open
+-- only slots: there is no table, and no session is open
 abbrev pub with_slots : SlotMap → ShellState
 with_slots slots = record { tables = empty; slots = slots; session = None }
 
@@ -96,7 +96,7 @@ slots_give {slots = slots} {next = next} {command = command} {reply = reply} lin
     answered (with_slots slots) line command reply (with_slots next) (IsUtf8-from_is_utf8 line text) asks
     (on_slots command reply next gives)
 
--- the byte 0xff alone is no text
+-- the byte 0xff is no text
 not_text_is_refused : (state : ShellState) → LineGives state (0xff ∷ []) (Refused LineText) state
 unfolding computing
 not_text_is_refused state = not_text state (0xff ∷ []) (λ text. true≢false (sym (is_utf8-from_IsUtf8 (0xff ∷ []) text)))

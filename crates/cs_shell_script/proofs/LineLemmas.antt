@@ -21,7 +21,7 @@ use Rattle.cs_shell_script.specs.Shells.{Answers, RunsShell}
 use Rattle.cs_shell_script.proofs.RunLemmas.{Runs-answered}
 use Rattle.cs_shell_script.proofs.TurnLemmas.{between_at_rest, between_still, between_then, between_weaker, known_shows, unable_as}
 
--- a line does what the line does that it stands for
+-- a line does what the line that it spells does
 pub line_meant : (old new : sqlite.State) (before after : Workspace) (line plain : List ℕ) (reply : Reply) → meant line ≡ plain
     → WorksOn old new before.slots after.slots before.session after.session (λ state. LineGives state plain) reply
     → WorksOn old new before.slots after.slots before.session after.session (λ state. LineSays state line) reply

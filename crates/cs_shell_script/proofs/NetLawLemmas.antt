@@ -39,7 +39,7 @@ use Rattle.cs_shell_script.proofs.NetLemmas.{OnlyWrites, touched_tracked, same_t
 
 -- ---- edits
 
--- an edit that is carried out changes no other rows than it tells
+-- an edit that is carried out changes no other rows than it reports
 abbrev IfEdited : State → Result Edited StoreError → Type 0
 IfEdited old (Ok done) = OnlyWrites old done.state done.written
 IfEdited old (Err e) = Unit {0}

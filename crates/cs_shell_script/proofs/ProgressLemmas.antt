@@ -111,7 +111,7 @@ written_more : (first before after : Option (List ℕ)) (replies : List Reply) (
 written_more first before after replies reply p q =
     subst (λ text. Appends first after text) (sym (replies_text-push replies reply)) (Appends-trans first before after _ _ p q)
 
--- a front of a text behind another
+-- a prefix of a text after another
 pub AppendsFront-behind : (first before after : Option (List ℕ)) (text more : List ℕ) → Appends first before text → AppendsFront before after more → AppendsFront first after (text ++ more)
 AppendsFront-behind first before after text more p q =
     (text ++ q.0, q.1, ap (λ l. text ++ l) q.2 ∙ sym (append_assoc text q.0 q.1), Appends-trans first before after text q.0 p q.3)
@@ -162,7 +162,7 @@ Breaks-feed contents gives old new (Err x) before after e = record {
   };
 }
 
--- more text, of which nothing is answered
+-- more text, not answered yet
 pub Broken-longer : {M : Type 0} (gives : M → List ℕ → Reply → M → Type 0) (start : M) (text more : List ℕ) (before after : Option (List ℕ)) (final : M) → Broken gives start text before after final
     → Broken gives start (text ++ more) before after final
 Broken-longer gives start text more before after final b = record {
@@ -174,7 +174,7 @@ Broken-longer gives start text more before after final b = record {
   written = b.written;
 }
 
--- bytes of a list, at one of which a write fails
+-- bytes of a list, where the write of one fails
 pub Breaks-more : {M W : Type 0} (contents : W → Option (List ℕ)) (gives : M → List ℕ → Reply → M → Type 0) (a b c : Running M) (x y z : Told W) (bytes : List ℕ) (i : ℕ) → i < length bytes
     → Advances contents gives a b x y (take i bytes) → Breaks contents gives b c y z (get_or bytes i 0 ∷ []) → Breaks contents gives a c x z bytes
 Breaks-more contents gives a b c x y z bytes i within p q = record {

@@ -207,7 +207,7 @@ Runs-unfinished remaining contents gives old mid new a b x y z r unfinished fail
       flagged = failed;
     }
 
--- the same run, of a status that is told otherwise
+-- the same run, with a status that is reported otherwise
 pub Runs-told : {R W S : Type 0} (remaining : R → Option (List ℕ)) (contents : W → Option (List ℕ)) (gives : S → List ℕ → Reply → S → Type 0) (one status : Status) (start final : S) (a b : Told R) (x y : Told W)
     → one ≡ status → Runs remaining contents gives one start final a b x y → Runs remaining contents gives status start final a b x y
 Runs-told remaining contents gives one status start final a b x y same runs =

@@ -37,7 +37,7 @@ printing = tt
 
 -- printed texts
 
--- the reply to a line that names an empty slot, the lines of a header of 6 bytes without a change behind it and of a
+-- the reply to a line that names an empty slot, the lines of a header of 6 bytes without a change after it and of a
 -- line that is malformed at its 24th byte, and the text of the insertion of (1, 'x')
 texts_are_printed :
     (reply_text (Refused EmptySlot) ≡ codes "error 62 EmptySlot\n")

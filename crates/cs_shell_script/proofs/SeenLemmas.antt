@@ -93,7 +93,7 @@ seen_same old new (table ∷ notes) same =
 -- ---- the net changes
 
 module _ (state : State) where
-  -- the row that stood under a key first is the one in the whole table
+  -- the first row of a key is the one in the whole table
   IsSaved : AttachedTable → FirstImage → Type 0
   IsSaved table first = first_at table.firsts first.key ≡ Some first.row
 
@@ -191,7 +191,7 @@ module _ (state : State) where
       let others = inverse_count changeset inverse all.1 zip.1 in
       rw same (length-append (placed_in h) (placed (compatible_groups state inverse)) ∙ omega (arith, many, others) ∙ sym (length-append (placed_in g) (placed changeset)))
 
-  -- where no conflict is met each entry is carried out
+  -- if there is no conflict each entry is carried out
   all_written : (choose : Choices) (ps : List PlacedEntry) → flat_map (met_at state choose) ps ≡ [] → length (filter_map (written_for state choose) ps) ≡ length ps
   all_written choose [] none = refl
   all_written choose (p ∷ ps) none = at (placed_kind state p) refl (all_written choose ps)

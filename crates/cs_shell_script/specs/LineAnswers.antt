@@ -89,7 +89,7 @@ declared_schema columns refuses keys = record {
   refuses = either (marks_of columns keys) refuses;
 }
 
--- the columns of the key are told first
+-- the columns of the key are reported first
 pub data CreateGives (old : ShellState) (name : List ℕ) (columns : List (List ℕ)) (refuses : List Bool)
     (keys : List (List ℕ)) : Reply → ShellState → Type 0 where
   unknown_key : (AreColumns columns keys → ⊥) → CreateGives old name columns refuses keys (Refused UnknownColumn) old
@@ -156,7 +156,7 @@ SelectGives old name reply new = (new ≡ old)
 
 -- ---- changesets that are applied
 
--- a file is applied, with what is told of it, and noted where a session is open; or it is refused
+-- a file is applied, with its report, and noted if a session is open; or it is refused
 pub data ApplyGives (old : ShellState) (chooses : Handler) (noop : Noop) (file : List ℕ) (direction : Direction) :
     Reply → ShellState → Type 0 where
   applied : (summary : Summary) (tables : State)
@@ -188,7 +188,7 @@ ByKind on_data on_notfound on_conflict on_constraint conflict choice =
 abbrev pub RevertGives : ShellState → List ℕ → Reply → ShellState → Type 0
 RevertGives old file = ApplyGives old AlwaysAborts noop.Report file Inverse
 
--- what is done with the bytes of a slot, which is told first where it is empty
+-- what is done with the bytes of a slot; an empty slot is reported first
 abbrev pub WithSlot : ShellState → List ℕ → (List ℕ → Reply → ShellState → Type 0) → Reply → ShellState → Type 0
 WithSlot old slot Gives reply new = ((get old.slots slot ≡ None) × (reply ≡ Refused EmptySlot) × (new ≡ old))
     ⊎ ((file : List ℕ) × (get old.slots slot ≡ Some file) × Gives file reply new)
@@ -198,7 +198,7 @@ WithSlot old slot Gives reply new = ((get old.slots slot ≡ None) × (reply ≡
 abbrev pub with_session : ShellState → Option SessionTables → ShellState
 with_session state session = record { tables = state.tables; slots = state.slots; session = session }
 
--- what is done with the session, which is told first where none is open
+-- what is done with the session; that none is open is reported first
 abbrev pub WithSession : ShellState → (SessionTables → Reply → ShellState → Type 0) → Reply → ShellState → Type 0
 WithSession old Gives reply new = ((old.session ≡ None) × (reply ≡ Refused NoSession) × (new ≡ old))
     ⊎ ((session : SessionTables) × (old.session ≡ Some session) × Gives session reply new)
@@ -208,7 +208,7 @@ OpenGives old reply new =
     ((old.session ≡ None) × (reply ≡ Silent) × (new ≡ with_session old (Some [])))
     ⊎ ((old.session ≢ None) × (reply ≡ Refused refusal.SessionOpen) × (new ≡ old))
 
--- a table that is attached has its rows as they stand there
+-- a table that is attached has its current rows
 pub data AttachGives (old : ShellState) (name : List ℕ) (session : SessionTables) : Reply → ShellState → Type 0 where
   attached : (schema : SchemaData) → All (λ t. t.name ≢ name) session → schema_at old.tables name ≡ Some schema
       → AttachGives old name session Silent (with_session old (Some (session ++ record {

@@ -1,4 +1,4 @@
--- The line that a line stands for. `.line` is this project's own: with it a name or a text can have a line feed.
+-- The line that a line spells. `.line` is this project's own: with it a name or a text can have a line feed.
 use Rattle.std.specs.Prelude.{List, [], ◌∷◌, ℕ, codes, if◌then◌else◌, Result, Ok, Err}
 use Rattle.std.specs.Str.{bytes_eq}
 use Rattle.hex.specs.Hex.{decode_of}
@@ -13,7 +13,7 @@ abbrev pub decoded_or : List ℕ → Result (List ℕ) FromHexError → List ℕ
 decoded_or line (Ok bytes) = bytes
 decoded_or line (Err e) = line
 
--- `.line` and hexadecimal digits stand for the line of these bytes, and any other line for itself. The line of these
+-- `.line` and hexadecimal digits spell the line of these bytes, and any other line spells itself. The line of these
 -- bytes is not spelled again: if it is itself a `.line`, it has no command
 abbrev pub meant_by : List (List ℕ) → List ℕ → List ℕ
 meant_by [] line = line
@@ -24,6 +24,6 @@ meant_by (word ∷ digits ∷ other ∷ words) line = line
 abbrev pub meant : List ℕ → List ℕ
 meant line = meant_by (words_of line) line
 
--- the reply to a line, and what it leaves, by the line that it stands for
+-- the reply to a line, and what it leaves, by the line that it spells
 abbrev pub LineSays : ShellState → List ℕ → Reply → ShellState → Type 0
 LineSays old line reply new = LineGives old (meant line) reply new

@@ -76,7 +76,7 @@ pub record Advances {M W : Type 0} (contents : W → Option (List ℕ)) (gives :
       → Progress gives start front first (known contents before) old
       → Progress gives start (front ++ bytes) first (known contents after) new
 
--- the lines of a front of the text were answered, and a front of what is printed for them was written
+-- the lines of a prefix of the text were answered, and a prefix of what is printed for them was written
 pub record Broken {M : Type 0} (gives : M → List ℕ → Reply → M → Type 0) (start : M) (text : List ℕ)
     (before after : Option (List ℕ)) (final : M) : Type 0 where
   pub front : List ℕ

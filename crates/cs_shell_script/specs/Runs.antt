@@ -42,7 +42,7 @@ LinesGive {S} gives old (line ∷ lines) (reply ∷ replies) new =
 LinesGive gives old [] (reply ∷ replies) new = ⊥
 LinesGive gives old (line ∷ lines) [] new = ⊥
 
--- each line of the text that a line feed ends is answered, and what is behind them is not
+-- each line of the text that a line feed ends is answered, and the rest is not
 pub record Answers {S : Type 0} (gives : S → List ℕ → Reply → S → Type 0) (start : S) (text : List ℕ)
     (replies : List Reply) (final : S) : Type 0 where
   pub lines : List (List ℕ)
@@ -101,7 +101,7 @@ pub record EndsOverrun {W S : Type 0} (contents : W → Option (List ℕ)) (give
   pub overruns : Overruns gives start final text replies
   pub written : Appends (known contents before) (known contents after) (overrun_text replies)
 
--- a write failed, where this is left of the input: of what is printed for the lines that were answered a front is
+-- a write failed, and this is left of the input: of what is printed for the lines that were answered a prefix is
 -- written. A last line that no line feed ends is answered only at the end of the input
 pub data EndsUnwritten {W S : Type 0} (contents : W → Option (List ℕ)) (gives : S → List ℕ → Reply → S → Type 0)
     (start final : S) (before after : Told W) (left : Option (List ℕ)) : List ℕ → Type 0 where

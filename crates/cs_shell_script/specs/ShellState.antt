@@ -1,5 +1,5 @@
 -- What the lines of a script are run on: tables, slots, and at most one session. A session is the one of SQLite's
--- session extension, said over whole tables: of each that is attached it has the rows as they stood then, and which
+-- session extension, said over whole tables: of each attached one it has the rows when it was attached, and which
 -- keys were written since.
 use Rattle.std.specs.Prelude.{bytes_eq, ℕ, if◌then◌else◌, List, [], ◌∷◌, ◌++◌, length, map, filter_map, Option}
 use Rattle.std.specs.Prelude.{option_map}
@@ -16,7 +16,7 @@ use Rattle.cs_session_notes.specs.FirstImages.{group_of, writes_of}
 abbrev pub SlotMap : Type 0
 SlotMap = ByBytes (List ℕ)
 
--- a table that is attached: its rows as they stood then, and the keys that were written since, each once, in the order
+-- a table that is attached: its rows at that time, and the keys that were written since, each once, in the order
 -- of the first write
 pub record SessionTable : Type 0 where
   pub name : List ℕ
@@ -35,7 +35,7 @@ pub record ShellState : Type 0 where
 
 -- ---- what was written
 
--- the keys, and behind them those that were not there yet, in their order
+-- the keys, and then those that were not there yet, in their order
 abbrev pub with_keys : List (List ℕ) → List (List ℕ) → List (List ℕ)
 with_keys keys [] = keys
 with_keys keys (key ∷ more) =
@@ -57,7 +57,7 @@ written_to state tables written = record {
 
 -- ---- the net changes
 
--- of each key that was written the net change from the row that stood under it, or none, to that which stands there
+-- for each written key the net change from the row that it had, or none, to the current one
 abbrev pub net_entries : State → SessionTable → List Entry
 net_entries tables table =
     filter_map (λ key. net_entry table.schema.flags (map.get table.saved key) (row_at tables table.name key))
@@ -73,7 +73,7 @@ net_of tables session = filter_map (net_table tables) session
 abbrev pub net_count : State → SessionTables → ℕ
 net_count tables session = length (flat_map (net_entries tables) session)
 
--- the tables, with the rows of those that are attached as they stood then
+-- the tables, with the rows of the attached ones when they were attached
 abbrev pub put_back : SessionTables → State → State
 put_back [] tables = tables
 put_back (table ∷ session) tables = with_rows (put_back session tables) table.name table.saved

@@ -14,7 +14,7 @@
 //! has the lines on tables, `changesets` those on slots, `applying` the applies and `sessions` the lines of a session.
 //!
 //! `script` reads lines by a `reader`, passes each to an interpreter, and prints the replies. `shell` is the
-//! interpreter over a store. `meant` has the line that a line stands for. `laws` has what holds of whole scripts.
+//! interpreter over a store. `meant` has the line that a line spells. `laws` has what holds of whole scripts.
 //! [`cs_shell_replies`] has the replies and how they are printed.
 #![tactic(auto)]
 

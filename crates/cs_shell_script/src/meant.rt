@@ -1,4 +1,4 @@
-//! The line that a line stands for.
+//! The line that a line spells.
 ghost use Rattle.std.specs.Prelude.{◌≡◌, IfOk, IsErr, MatchOption, Ok};
 ghost use Rattle.hex.specs.Hex.{decode_of};
 ghost use Rattle.cs_shell_script.specs.Meant.{meant};
@@ -8,8 +8,8 @@ use cs_value::NoMemory;
 use hex::FromHexError;
 use std::alloc::Global;
 
-/// Returns the bytes of the line that `.line` and hexadecimal digits stand for, or None for another line, which stands
-/// for itself.
+/// Returns the bytes of the line that `.line` and hexadecimal digits spell, or None for another line, which spells
+/// itself.
 pub(crate) fn spelled_line(alloc: Global, line: &[u8]) -> Result<Option<Vec<u8>>, NoMemory>
     ensures { IfOk result (λ spelled. MatchOption spelled (meant line.now ≡ line.now)
         (λ bytes. meant line.now ≡ bytes.items)) }

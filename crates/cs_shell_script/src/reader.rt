@@ -12,7 +12,7 @@ pub(crate) struct LineReader {
 }
 
 impl LineReader {
-    /// Returns a line of which nothing is read.
+    /// Returns a line that is not read yet.
     pub(crate) fn new(alloc: Global) -> LineReader
         ensures { IsAtStart result }
     {

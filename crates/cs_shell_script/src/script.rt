@@ -101,7 +101,7 @@ struct RunningScript {
 }
 
 impl RunningScript {
-    /// Returns a script of which nothing is read.
+    /// Returns a script that is not read yet.
     fn new(alloc: Global) -> RunningScript
         ensures { IsFresh result }
     {

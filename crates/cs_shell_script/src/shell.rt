@@ -52,7 +52,7 @@ impl<S: Alter> Interpreter for Shell<'_, S> {
     ) };
 }
 
-/// Carries out the line that a line stands for, and returns its reply.
+/// Carries out the line that a line spells, and returns its reply.
 fn answer_meant<S: Alter>(
     alloc: Global,
     store: &mut Store<S>,
@@ -89,7 +89,7 @@ fn run_shell<S: Alter, R: Read, W: Write>(
 /// Runs a script on a store: reads its lines, answers them, and prints the replies. The lines that were read are
 /// answered before more is read.
 ///
-/// `.line` and hexadecimal digits stand for the line of these bytes, which can have line feeds.
+/// `.line` and hexadecimal digits spell the line of these bytes, which can have line feeds.
 ///
 /// A line changes nothing if memory or the database refuses it. Once a failure of the disk has shut the store, each
 /// line that asks for a table is refused. Before the first line an empty batch is begun and dropped. If that fails,

@@ -17,7 +17,7 @@ pub behind-pass : (p : ℕ → Bool) (b : ℕ) (bytes : List ℕ) → p b ≡ tr
 unfolding behind
 behind-pass p b bytes h = cond-true (p b) _ _ h
 
--- where the first byte does not pass, no byte stands in front
+-- if the first byte does not pass, the prefix is empty
 pub behind_none : (p : ℕ → Bool) (bytes : List ℕ) → begins p bytes ≡ false → behind p bytes ≡ bytes
 unfolding behind
 behind_none p [] h = refl
@@ -46,7 +46,7 @@ front_cut p line front rest is h e = ap (front_of p) is ∙ front_is p front res
 pub behind_cut : (p : ℕ → Bool) (line front rest : List ℕ) → line ≡ front ++ rest → All (λ b. p b ≡ true) front → begins p rest ≡ false → behind p line ≡ rest
 behind_cut p line front rest is h e = ap (behind p) is ∙ behind_is p front rest (recursion_from_All _ front h) e
 
--- a line is its front and what is behind it
+-- a line is its prefix and the rest
 pub front_behind : (p : ℕ → Bool) (line : List ℕ) → line ≡ front_of p line ++ behind p line
 unfolding front_of behind
 front_behind p [] = refl
@@ -92,7 +92,7 @@ pub unquoted-quote : (quote b : ℕ) (bytes : List ℕ) → (b == quote) ≡ tru
 unfolding unquoted
 unquoted-quote quote b bytes h = cond-true (b == quote) _ _ h
 
--- and a second one behind it
+-- and a second one after it
 pub unquoted-second : (quote b : ℕ) (bytes : List ℕ) → (b == quote) ≡ true → unquoted quote true (b ∷ bytes) ≡ onto_text (quote ∷ []) (unquoted quote false bytes)
 unfolding unquoted
 unquoted-second quote b bytes h = cond-true (b == quote) _ _ h
@@ -146,7 +146,7 @@ read_end quote b line rest after text so_far is h e =
 pub read_none : (quote : ℕ) (line rest text : List ℕ) → unquoted quote false line ≡ onto_text text (unquoted quote false rest) → rest ≡ [] → unquoted quote false line ≡ None
 read_none quote line rest text so_far is = so_far ∙ ap (λ l. onto_text text (unquoted quote false l)) is ∙ ap (onto_text text) (unquoted-nil quote)
 
--- what stands behind a first byte
+-- what comes after a first byte
 cut_rest : (b : ℕ) (bytes word rest : List ℕ) → take (length (b ∷ bytes) - 1) (drop 1 (b ∷ bytes)) ≡ word ++ rest → bytes ≡ word ++ rest
 cut_rest b bytes word rest is = sym (take_all (length (b ∷ bytes) - 1) bytes (omega arith)) ∙ is
 

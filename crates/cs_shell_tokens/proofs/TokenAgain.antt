@@ -141,7 +141,7 @@ digits_word : (bytes : List ℕ) → AllDigits 10 bytes → AllByRecursion (λ b
 digits_word [] h = tt
 digits_word (b ∷ bytes) h = (digit_word_byte b (digit_tested b h.0), digits_word bytes h.1)
 
--- a piece stands at the front
+-- a piece comes first
 piece_here : (b : ℕ) (more rest : List ℕ) → b < 128 → AllByRecursion (λ b. is_word_byte b ≡ true) more → begins is_word_byte rest ≡ false
     → piece_at (b ∷ more ++ rest) ≡ token_or_refused (token_of_piece (b ∷ more)) rest
 unfolding piece_at piece_of behind_piece

@@ -37,7 +37,7 @@ literals :
 unfolding on_literals
 literals = (refl, refl, refl, refl)
 
--- behind what is malformed there is no token
+-- after what is malformed there is no token
 malformed :
     (tokens_of (codes "9223372036854775808") ≡ None ∷ [])
     × (tokens_of (codes "1x") ≡ None ∷ [])

@@ -19,7 +19,7 @@ use Rattle.std.specs.Prelude.{ℤ}
 use Rattle.cs_shell_tokens.proofs.PartLemmas.{front_behind, front_passes, behind_fails}
 use Rattle.cs_shell_tokens.proofs.IntegerLemmas.{from_is_integer}
 
--- the line begins with bytes that spell the token, and the rest stands behind them
+-- the line begins with bytes that spell the token, and the rest comes after them
 pub record IsTaken (line : List ℕ) (token : Token) (rest : List ℕ) : Type 0 where
   pub bytes : List ℕ
   pub whole : line ≡ bytes ++ rest
@@ -31,7 +31,7 @@ Reads line (Taken token rest) = IsTaken line token rest
 Reads line Ended = line ≡ []
 Reads line Refused = Unit {0}
 
--- a text that ends at a quote is spelled so; where a quote stands in front of the bytes, so is it with that quote
+-- a text that ends at a quote is spelled so; if a quote comes before the bytes, it is with that quote
 record IsEnded (quote : ℕ) (bytes : List ℕ) (u : Unquoted) : Type 0 where
   whole : bytes ≡ doubled quote u.text ++ quote ∷ u.rest
   longest : begins (λ b. b == quote) u.rest ≡ false
@@ -65,7 +65,7 @@ ends_quotes quote bytes (Some u) e = record {
   longest = e.longest;
 }
 
--- both readings of the bytes: behind no quote, and behind one
+-- both readings of the bytes: not after a quote, and after one
 unquoted_ends : (quote : ℕ) (bytes : List ℕ) → Ends quote bytes (unquoted quote false bytes) × Ends quote (quote ∷ bytes) (unquoted quote true bytes)
 unfolding Ends unquoted doubled
 unquoted_ends quote [] = (tt, record { whole = refl; longest = refl })
@@ -79,7 +79,7 @@ unquoted_ends quote (b ∷ bytes) =
       | inr h ↦ rw h (ends_byte quote b bytes (unquoted quote false bytes) h more.0, record { whole = refl; longest = h })
     ]
 
--- a quoted text, behind its first quote
+-- a quoted text, after its first quote
 quoted_whole : (quote : ℕ) (bytes text rest : List ℕ) → bytes ≡ doubled quote text ++ quote ∷ rest → quote ∷ bytes ≡ quoted quote text ++ rest
 quoted_whole quote bytes text rest e = ap (λ l. quote ∷ l) (e ∙ sym (append_assoc (doubled quote text) (quote ∷ []) rest))
 
@@ -107,7 +107,7 @@ text_reads bytes (Some u) e = elim (cases_Bool (is_utf8 u.text && leb (length u.
   | inr h ↦ rw h tt
 ]
 
--- a blob, behind its X and quote
+-- a blob, after its X and quote
 blob_bytes : (b : ℕ) (digits : List ℕ) → ((b == 88) || (b == 120)) ≡ true
     → (b ∷ 39 ∷ digits ++ 39 ∷ [] ≡ codes "X'" ++ digits ++ codes "'") ⊎ (b ∷ 39 ∷ digits ++ 39 ∷ [] ≡ codes "x'" ++ digits ++ codes "'")
 blob_bytes b digits h = elim (or_cases (b == 88) (b == 120) h) [
@@ -284,7 +284,7 @@ token_reads (b ∷ bytes) = elim (cases_Bool (b == 34)) [
 
 -- ---- a line
 
--- what is read behind the blanks of a line
+-- what is read after the blanks of a line
 pub next_taken : (line : List ℕ) (token : Token) (rest : List ℕ) → next_at line ≡ Taken token rest → IsTaken (behind is_blank line) token rest
 unfolding next_at Reads
 next_taken line token rest e = subst (Reads (behind is_blank line)) e (token_reads (behind is_blank line))

@@ -35,7 +35,7 @@ pub words_of-append : (word rest : List ℕ) → 0 < length word → All (λ b. 
 words_of-append [] rest some h e = absurd (omega arith)
 words_of-append (b ∷ word) rest some h e = words_of-recursion b word rest (recursion_from_All _ (b ∷ word) h) e
 
--- what stands in front of a blank has a byte, where a word begins
+-- the text before a blank has a byte, where a word begins
 pub word_nonempty : (word rest line : List ℕ) → line ≡ word ++ rest → 0 < length line → starts_word line ≡ true → ends_word rest ≡ true → 0 < length word
 word_nonempty (b ∷ word) rest line is some start e = omega arith
 word_nonempty [] [] line is some start e = absurd (omega (arith, ap length is))
@@ -60,7 +60,7 @@ words_more words word after next rest line so_far is some start none_blank e ski
     ∙ ap (λ ws. words ++ ws) (sym (words_of-append word after (word_nonempty word after rest is some start e) none_blank e))
     ∙ ap (λ l. words ++ words_of l) (sym is) ∙ so_far
 
--- ---- what is behind a word
+-- ---- the text after a word
 
 pub behind_word-blank : (b : ℕ) (bytes : List ℕ) → is_blank b ≡ true → behind_word (b ∷ bytes) ≡ behind_word bytes
 unfolding behind_word

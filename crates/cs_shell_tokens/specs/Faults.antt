@@ -14,7 +14,7 @@ abbrev pub Reads : {X Y : Type 0} → Result X (OrNoMemory TokenFault) → (X �
 Reads (Ok x) view read = read ≡ Some (view x)
 Reads (Err stop) view read = Misfits read stop
 
--- what is read behind what was read
+-- what is read after what was read
 abbrev pub and_then : {X Y : Type 0} → Option X → (X → Option Y) → Option Y
 and_then None next = None
 and_then (Some x) next = next x

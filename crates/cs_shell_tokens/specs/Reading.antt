@@ -60,7 +60,7 @@ same_symbol a b = symbol_place a == symbol_place b
 abbrev pub starts_word : List ℕ → Bool
 starts_word bytes = not (begins is_blank bytes)
 
--- the front of the bytes, of which each passes
+-- the longest prefix of bytes that pass
 unfoldable pub front_of : (ℕ → Bool) → List ℕ → List ℕ
 front_of p [] = []
 front_of p (b ∷ bytes) = if p b then b ∷ front_of p bytes else []
@@ -79,7 +79,7 @@ unfoldable pub behind_piece : List ℕ → List ℕ
 behind_piece [] = []
 behind_piece (b ∷ bytes) = behind is_word_byte bytes
 
--- a text whose quotes are no longer doubled, and what stands behind the quote that ends it
+-- a text whose quotes are no longer doubled, and what comes after the quote that ends it
 pub record Unquoted : Type 0 where
   pub text : List ℕ
   pub rest : List ℕ
@@ -89,7 +89,7 @@ abbrev pub onto_text : List ℕ → Option Unquoted → Option Unquoted
 onto_text front None = None
 onto_text front (Some u) = Some (record { text = front ++ u.text; rest = u.rest })
 
--- what stands behind the first quote of a text, where a quote in it is still held or none is: the next byte says
+-- what comes after the first quote of a text, with a quote in it that is still held or without: the next byte says
 -- whether a held quote is doubled or ends the text
 unfoldable pub unquoted : ℕ → Bool → List ℕ → Option Unquoted
 unquoted quote held [] = if held then Some (record { text = []; rest = [] }) else None
@@ -105,7 +105,7 @@ unquoted_of (Some read) = Some (record { text = read.0.items; rest = read.1.now 
 
 -- ---- tokens
 
--- what a line begins with: a token, behind which the rest stands; nothing; or no token
+-- what a line begins with: a token, and the rest after it; nothing; or no token
 pub data Next : Type 0 where
   Taken : Token → List ℕ → Next
   Ended : Next
@@ -177,7 +177,7 @@ unfoldable pub blob_of : List ℕ → List ℕ → Next
 blob_of digits [] = Refused
 blob_of digits (quote ∷ rest) = blob_from (decode_of digits) rest
 
--- a blob, behind the X
+-- a blob, after the X
 unfoldable pub blob_at : List ℕ → Next
 blob_at [] = Refused
 blob_at (quote ∷ bytes) = blob_of (front_of (λ b. not (b == 39)) bytes) (behind (λ b. not (b == 39)) bytes)
@@ -192,7 +192,7 @@ sign_at b rest =
     else if b == 42 then Taken (Fixed symbol.Star) rest
     else Refused
 
--- the token at the front, where no blank stands
+-- the first token, if there are no blanks
 unfoldable pub token_at : List ℕ → Next
 token_at [] = Ended
 token_at (b ∷ bytes) =
@@ -202,13 +202,13 @@ token_at (b ∷ bytes) =
     else if is_word_byte b || (b == 45) then piece_at (b ∷ bytes)
     else sign_at b bytes
 
--- the token behind the blanks
+-- the token after the blanks
 unfoldable pub next_at : List ℕ → Next
 next_at line = token_at (behind is_blank line)
 
 -- ---- the tokens of a line
 
--- a token, and those behind it
+-- a token, and the later ones
 abbrev pub onward : (List ℕ → List (Option Token)) → Next → List (Option Token)
 onward tokens (Taken token rest) = Some token ∷ tokens rest
 onward tokens Ended = []

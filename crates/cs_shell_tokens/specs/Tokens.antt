@@ -118,7 +118,7 @@ Spells (Value (Text text)) bytes rest = IsQuoted 39 text bytes rest × (length t
 Spells (Value (Blob blob)) bytes rest = IsBlob blob bytes × (length blob ≤ MAX_CONTENT_LEN)
 Spells (Value Null) bytes rest = IsWord bytes rest × (str_eq_ignore_ascii_case bytes (codes "NULL") ≡ true)
 
--- the line is these tokens, with blanks or nothing before, between and behind them
+-- the line is these tokens, with blanks or nothing before, between and after them
 abbrev pub AreTokens : List ℕ → List Token → Type 0
 AreTokens line [] = AreBlanks line
 AreTokens line (token ∷ tokens) = (blanks : List ℕ) × (bytes : List ℕ) × (rest : List ℕ)

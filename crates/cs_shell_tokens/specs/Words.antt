@@ -16,7 +16,7 @@ abbrev pub onto_first : ℕ → List (List ℕ) → List (List ℕ)
 onto_first b [] = (b ∷ []) ∷ []
 onto_first b (word ∷ words) = (b ∷ word) ∷ words
 
--- the words of a line: what stands between its blanks
+-- the words of a line: the texts between its blanks
 unfoldable pub words_of : List ℕ → List (List ℕ)
 words_of [] = []
 words_of (b ∷ bytes) =
@@ -33,13 +33,13 @@ IsSlot name = (name ≢ []) × AllByRecursion (λ b. is_word_byte b ≡ true) na
 abbrev pub Words : Type 0
 Words = List (List ℕ)
 
--- what is behind the first word of a line
+-- the text after the first word of a line
 unfoldable pub behind_word : List ℕ → List ℕ
 behind_word [] = []
 behind_word (b ∷ bytes) =
     if is_blank b then behind_word bytes else if ends_word bytes then bytes else behind_word bytes
 
--- the first word, what is behind it
+-- the first word, and the text after it
 pub record IsNextWord (line : List ℕ) (word rest : List ℕ) : Type 0 where
   pub words : words_of line ≡ word ∷ words_of rest
   pub behind : behind_word line ≡ rest

@@ -37,12 +37,12 @@ pub record SparesStore (old new : sqlite.State) : Type 0 where
 
 -- ---- what a call makes of a store
 
--- a store stands with these tables: while its connection is open, no batch is, and these are committed. One whose
--- connection a failure of the disk has shut stands with any
+-- a store is settled with these tables: while its connection is open, no batch is, and these are committed. If a
+-- failure of the disk has shut its connection, any tables will do
 abbrev pub Stands : sqlite.State → State → Type 0
 Stands store tables = IsTrue store.is_open → IsAtRest store × (tables_in store.now ≡ tables)
 
--- what is known of a store and its tables: that it stands with them, where it is settled, and else that it shows them
+-- what is known of a store and its tables: if it is settled, that it is with them, and otherwise that it shows them
 abbrev pub Known : Bool → sqlite.State → State → Type 0
 Known true store tables = Stands store tables
 Known false store tables = Shows store tables
@@ -55,7 +55,7 @@ pub record TurnsBetween (old new : sqlite.State) (Before After : State → Type 
   pub done : HasCleanDisk new → (before : State) → Before before → (after : State) × After after × Holds before after
   pub others : HasCleanDisk new → (before : State) → Before before → SparesStore old new
 
--- a store that stood with some tables stands with others
+-- a store that was settled with some tables is settled with others
 abbrev pub Turns : sqlite.State → sqlite.State → (State → State → Type 0) → Type 0
 Turns old new Holds = TurnsBetween old new (Stands old) (Stands new) Holds
 

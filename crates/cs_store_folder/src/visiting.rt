@@ -13,7 +13,7 @@ pub trait Visitor {
     ghost use Rattle.sqlite.specs.Held.{state};
     ghost use Rattle.cs_store.specs.Turns.{Turns};
 
-    // What it is before and after, and which tables it makes of which.
+    // What it is before and after, and which tables it makes from which.
     ghost visits: { Self → Self → State → State → Type 0 };
 
     // What it is before and after, whatever the disk does.

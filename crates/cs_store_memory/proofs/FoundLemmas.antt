@@ -62,7 +62,7 @@ found_opens held bytes new clean empty (inl finds) opens = ∥∥₁_elim finds 
     was : State
     was = record new { now = opens.db; is_open = true; in_transaction = false }
 
--- damage is no want of memory, and no fault of the database
+-- damage is neither out of memory nor a fault of the database
 no_fault : IsStoreFault DamagedStore → ⊥
 no_fault fault = elim fault [ ]
 

@@ -196,7 +196,7 @@ pub record Edits (schema : Schema) (tree : ℕ) (old : Trees) (tab key : List �
   pub replaces : Replaces (old tree) tab key here (next tree)
   pub spares : AllByRecursion (λ t. t.tree ≢ tree → next t.tree ≡ old t.tree) schema.tables
 
--- a row that is put in alone, where it is that of the record
+-- only a row is put in, if it is that of the record
 pub puts_one : (schema : Schema) (tree : ℕ) (old next : Trees) (tab key value : List ℕ) (new : Row) → is_under tab key new ≡ true → content (column new 3) ≡ value → have_rowids (new ∷ []) ≡ true
     → are_fresh (old tree) (new ∷ []) ≡ true → next tree ≡ put_all (old tree) (new ∷ []) → AllByRecursion (λ t. t.tree ≢ tree → next t.tree ≡ old t.tree) schema.tables
     → Edits schema tree old tab key (Some value) next

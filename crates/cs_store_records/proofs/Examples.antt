@@ -24,7 +24,7 @@ use Rattle.cs_store_records.specs.Statements.{find_text, find_query, list_text, 
 abbrev schema_of : List Table → Table → ℕ → List Index → Schema
 schema_of tables keyed tree more = record { tables = tables; indexes = automatics keyed 0 tree keyed.uniques ++ more; views = [] }
 
--- the table of records alone
+-- only the table of records
 abbrev records_alone : Schema
 records_alone = schema_of (records_table 0 ∷ []) (records_table 0) 1 []
 
@@ -125,7 +125,7 @@ records_apart tree = record { elsewhere = λ other. absurd (true≢false other);
 own_apart : (tree other : ℕ) → tree ≢ other → IsApart other (own_table tree)
 own_apart tree other apart = record { elsewhere = λ named. apart; references = All-from_recursion _ [] tt }
 
--- the table of records, alone
+-- only the table of records
 pub alone_declares : DeclaresRecords records_alone
 unfolding same_name
 alone_declares = record {

@@ -76,7 +76,7 @@ IsHindered old new store.Broken = MoreFaults old.faults new.faults ⊎ (old.is_o
 IsHindered old new store.OutOfMemory = ⊥
 IsHindered old new store.Unstorable = ⊥
 
--- So it is, and the error tells it.
+-- That is so, and the error says it.
 abbrev pub HasDiskFailed : State → State → Error → Type 0
 HasDiskFailed old new error = (cause : StoreError) × (error ≡ store_error cause) × IsHindered old new cause
 

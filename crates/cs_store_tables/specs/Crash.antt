@@ -15,7 +15,7 @@ pub record MayLeave (Holds : tables.State → Type 0) (trees : Trees) : Type 0 w
   pub store : HoldsState (record { schema = schema; trees = trees })
   pub tables : Holds (tables_in (record { schema = schema; trees = trees }))
 
--- a crash leaves a store with tables of which this holds, and nothing else, if the disk has returned what was written
+-- a crash leaves a store whose tables satisfy this, and nothing else, if the disk has returned what was written
 abbrev pub LeavesOnly : (tables.State → Type 0) → State → Type 0
 LeavesOnly Holds s = HasCleanDisk s → (trees : Trees) → s.may_leave trees → MayLeave Holds trees
 

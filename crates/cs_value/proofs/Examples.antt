@@ -76,7 +76,7 @@ least_is_value = record { sfits = omega arith }
 below_least_is_none : IsValue (Int (negsuc 9223372036854775808)) → ⊥
 below_least_is_none h = absurd (omega (arith, h.sfits))
 
--- the byte ff alone is no text
+-- the byte ff is no text
 ff_is_no_text : IsValue (Text (0xff ∷ [])) → ⊥
 unfolding computing
 ff_is_no_text h = true≢false (sym (is_utf8-from_IsUtf8 (0xff ∷ []) h.0))
@@ -90,7 +90,7 @@ null_begins : BeginsWith (0x05 ∷ 0x03 ∷ []) (field_bytes (Defined Null)) 1
 unfolding computing
 null_begins = record { whole = refl; count = refl }
 
--- the columns of the key stand in the order of the table
+-- the columns of the key are in the order of the table
 flagged_columns_are_key :
     (key_columns (1 ∷ 0 ∷ []) (Int (pos 1) ∷ Text (codes "x") ∷ []) ≡ Int (pos 1) ∷ [])
     × (key_columns (2 ∷ 0 ∷ 1 ∷ []) (Text (codes "x") ∷ Null ∷ Int (pos 1) ∷ [])

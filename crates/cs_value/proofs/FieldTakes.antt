@@ -19,7 +19,7 @@ use Rattle.cs_value.proofs.Integers.{integer_bytes, integer_of, integer_of-fits,
 use Rattle.cs_value.proofs.FieldKinds.{kind_cases, field_at-nil, field_at-undefined, field_at-integer, field_at-real, field_at-text, field_at-blob, field_at-null, field_at-other}
 use Rattle.cs_value.proofs.VarintLemmas.{number_takes, BeginsWith-from_append}
 
--- behind a type byte a reader took this text, which ends there, the type byte included
+-- after a type byte a reader took this text, which ends there, the type byte included
 pub record Takes (content text : List ℕ) (end : ℕ) : Type 0 where
   pub rest : List ℕ
   pub whole : content ≡ text ++ rest
@@ -56,7 +56,7 @@ counted_takes content c fits e =
 
 -- ---- fields
 
--- a type byte and a text, of which a field consists
+-- a field of a type byte and a text
 begins : (kind : ℕ) (content text : List ℕ) (end : ℕ) → Takes content text end → BeginsWith (kind ∷ content) (kind ∷ text) end
 begins kind content text end t = BeginsWith-from_append (kind ∷ content) (kind ∷ text) t.rest end (ap (λ (x : List ℕ). kind ∷ x) t.whole) (omega (arith, t.ends))
 

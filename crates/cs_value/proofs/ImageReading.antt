@@ -44,7 +44,7 @@ FieldsSoFar-push bytes i fields end field used so is begins within = record {
   within = within;
 }
 
--- no field stands where one is left to be read
+-- there is no field where one is left to be read
 pub no_field : (bytes : List ℕ) (columns i : ℕ) (fields : List OwnedField) (end : ℕ) (refusal : OrNoMemory FieldFault)
     → FieldsSoFar bytes i fields end → i < columns → Refuses (NoFieldAt bytes end) refusal → Refuses (λ f. RecordFails bytes columns f.kind f.place) refusal
 no_field bytes columns i fields end (Fault f) so lt none = record {
@@ -66,7 +66,7 @@ pub record HasField (bytes : List ℕ) : Type 0 where
   pub is_field : IsField field
   pub spelled : bytes ≡ field_bytes field ++ rest
 
--- behind fewer fields than a record has, its next one begins
+-- after fewer fields than a record has, its next one begins
 next_field : (fields all : List OwnedField) (left rest : List ℕ) → IsRecord fields → IsRecord all → length fields < length all → record_bytes fields ++ left ≡ record_bytes all ++ rest → HasField left
 next_field fields [] left rest are is lt e = absurd (omega arith)
 next_field [] (f ∷ all) left rest are is lt e = record { field = f; rest = record_bytes all ++ rest; is_field = is.0; spelled = e ∙ append_assoc (field_bytes f) (record_bytes all) rest }
@@ -74,7 +74,7 @@ next_field (g ∷ fields) (f ∷ all) left rest are is lt e =
     let first = field_spellings g f (record_bytes fields ++ left) (record_bytes all ++ rest) are.0 is.0 (sym (append_assoc (field_bytes g) (record_bytes fields) left) ∙ e ∙ append_assoc (field_bytes f) (record_bytes all) rest) in
     next_field fields all left rest are.1 is.1 (omega arith) first.1
 
--- where a column is left, a record that stands there has a field for it
+-- while a column is left, a record has a field for it
 pub has_field : (bytes : List ℕ) (columns i : ℕ) (fields : List OwnedField) (end : ℕ) → FieldsSoFar bytes i fields end → i < columns
     → (all : List OwnedField) (rest : List ℕ) → IsRecord all → length all ≡ columns → bytes ≡ record_bytes all ++ rest → HasField (drop end bytes)
 has_field bytes columns i fields end so lt all rest is len e = next_field fields all (drop end bytes) rest so.are_fields is (omega (arith, so.count)) (sym so.begins.whole ∙ e)

@@ -11,7 +11,7 @@ length-IsKeyedRow (suc f ∷ flags) (v ∷ row) h = ap suc (length-IsKeyedRow fl
 length-IsKeyedRow [] (v ∷ row) h = absurd h
 length-IsKeyedRow (f ∷ flags) [] h = absurd h
 
--- the row of this column alone fits its flag
+-- the row of this single column fits its flag
 abbrev pub IsKeyedColumn : List ℕ → List OwnedValue → ℕ → Type 0
 IsKeyedColumn flags row column = IsKeyedRow (get_or flags column 0 ∷ []) (get_or row column Null ∷ [])
 

@@ -119,7 +119,7 @@ module _ {X : Type 0} (xs : List X) (i : ℕ) (x : X) (lt : i < length xs) (is :
       one true = refl
       one false = refl
 
-  -- behind other elements
+  -- after other elements
   pub filter_more_behind : (p : X → Bool) (start now new : List X) (o : Option X) → now ≡ start ++ filter p (take i xs) → o ≡ (if p x then Some x else None)
       → new ≡ now ++ option_to_list o → new ≡ start ++ filter p (take (i + 1) xs)
   filter_more_behind p start now new o so o_is grown =

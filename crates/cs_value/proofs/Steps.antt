@@ -42,12 +42,12 @@ pub guard_err : {A : Type 0} (b : Bool) (c d : FieldFault) (x : A) → cond b (E
 guard_err true c d x e = (refl, cc)
 guard_err false c d x e = absurd cc
 
--- behind the type byte a value stays
+-- after the type byte a value stays
 pub behind_ok : {A : Type 0} (r : Result A FieldFault) (x : A) → behind_type r ≡ Ok x → r ≡ Ok x
 behind_ok (Ok y) x e = e
 behind_ok (Err c) x e = absurd cc
 
--- behind the type byte a fault is one byte further on
+-- after the type byte a fault is one byte further on
 pub behind_err : {A : Type 0} (r : Result A FieldFault) (d : FieldFault) → behind_type r ≡ Err d → (c : FieldFault) × (r ≡ Err c) × (d ≡ fault c.kind (1 + c.place))
 behind_err (Ok y) d e = absurd cc
 behind_err (Err c) d e = (c, refl, cc)

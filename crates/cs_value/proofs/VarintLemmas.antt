@@ -56,14 +56,14 @@ number_at-zero bytes = refl
 
 -- ---- takes
 
--- leading digits, and bytes behind them, of which this is read
+-- leading digits, and the bytes after them, from which this is read
 record Takes (digits bytes : List ℕ) (read : ℕ × ℕ) : Type 0 where
   small : read.0 ≤ MAX_CONTENT_LEN
   rest : List ℕ
   whole : digits ++ bytes ≡ varint read.0 ++ rest
   count : read.1 ≡ length (varint read.0)
 
--- one digit may stand on either side
+-- one digit may be on either side
 takes_on : (digits more bytes : List ℕ) (b : ℕ) (read : ℕ × ℕ) → more ≡ digits ++ b ∷ [] → Takes more bytes read → Takes digits (b ∷ bytes) read
 takes_on digits more bytes b read e t = record { small = t.small; rest = t.rest; whole = sym (rw (e, append_assoc) refl) ∙ t.whole; count = t.count }
 
@@ -164,7 +164,7 @@ number_again n rest le = number_at-from (varint n ++ rest) (varint-first n rest 
 CutOff : ℕ → List ℕ → FieldFault → Type 0
 CutOff used bytes e = (e ≡ fault Truncated (used + length bytes)) × (used + length bytes ≤ 4) × AllByRecursion (λ b. 127 < b) bytes
 
--- five bytes, of which the last ends no number that is small enough
+-- five bytes whose last ends no number that is small enough
 TooLong : ℕ → List ℕ → FieldFault → Type 0
 TooLong used bytes e = (e ≡ fault BadVarint 0) × (5 ≤ used + length bytes) × AllByRecursion (λ b. 127 < b) (take (4 - used) bytes)
 

@@ -52,7 +52,7 @@ VarintFails bytes BadText place = ⊥
 abbrev pub HasContent : List ℕ → List ℕ → Type 0
 HasContent bytes content = (bytes ≡ 3 ∷ content) ⊎ (bytes ≡ 4 ∷ content)
 
--- 0x01, and fewer than eight bytes behind it
+-- 0x01, and fewer than eight bytes after it
 pub record IsCutInteger (bytes : List ℕ) : Type 0 where
   pub content : List ℕ
   pub spelled : bytes ≡ 1 ∷ content
@@ -66,7 +66,7 @@ pub record IsCutContent (content : List ℕ) : Type 0 where
   pub spelled : content ≡ varint count ++ rest
   pub fewer : length rest < count
 
--- a text or a blob that is cut in its count or behind it
+-- a text or a blob that is cut in its count or after it
 pub record IsCutTextOrBlob (bytes : List ℕ) : Type 0 where
   pub content : List ℕ
   pub has_content : HasContent bytes content
@@ -89,7 +89,7 @@ pub record HasBadType (bytes : List ℕ) : Type 0 where
   pub spelled : bytes ≡ kind ∷ rest
   pub no_type : 5 < kind
 
--- a text that is not UTF-8, behind its count
+-- a text that is not UTF-8, after its count
 pub record HasBadText (bytes : List ℕ) (place : ℕ) : Type 0 where
   pub text : List ℕ
   pub rest : List ℕ

@@ -1,11 +1,11 @@
--- The keys of rows: what tells the rows of a table apart.
+-- The keys of rows: what distinguishes the rows of a table.
 use Rattle.std.specs.Prelude.{◌≡◌, ℕ, zero, suc, List, [], ◌∷◌}
 use Rattle.cs_value.specs.declared.value.OwnedValue.{OwnedValue}
 use Rattle.cs_value.specs.declared.value.OwnedField.{OwnedField}
 use Rattle.cs_value.specs.declared.value.OwnedField.TheVariants.{Undefined, Defined}
 use Rattle.cs_value.specs.Spelling.{row_bytes, record_bytes}
 
--- what stands in the key columns, in column order: those with a flag other than 0
+-- the values of the key columns, in column order: those with a flag other than 0
 abbrev pub key_columns : {X : Type 0} → List ℕ → List X → List X
 key_columns [] xs = []
 key_columns (flag ∷ flags) [] = []

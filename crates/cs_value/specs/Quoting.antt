@@ -1,4 +1,4 @@
--- How texts and names stand between quotes, as in SQL: a quote inside is doubled.
+-- How texts and names are quoted, as in SQL: a quote inside is doubled.
 use Rattle.std.specs.Prelude.{ℕ, ◌==◌, if◌then◌else◌, List, [], ◌∷◌, ◌++◌}
 
 -- each of these bytes twice

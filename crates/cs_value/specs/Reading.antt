@@ -39,12 +39,12 @@ abbrev pub ◌>>=◌ : {A B : Type 0} → Result A FieldFault → (A → Result 
 (Ok x) >>= f = f x
 (Err e) >>= f = Err e
 
--- a fault behind the type byte
+-- a fault after the type byte
 abbrev pub behind_type : {A : Type 0} → Result A FieldFault → Result A FieldFault
 behind_type (Ok x) = Ok x
 behind_type (Err e) = Err (fault e.kind (1 + e.place))
 
--- Behind a type byte: what is read, and where it ends, the type byte included.
+-- After a type byte: what is read, and where it ends, the type byte included.
 
 unfoldable pub integer_at : List ℕ → Result (OwnedField × ℕ) FieldFault
 integer_at content =

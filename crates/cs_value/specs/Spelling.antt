@@ -8,7 +8,7 @@ use Rattle.cs_value.specs.declared.value.OwnedField.{OwnedField}
 use Rattle.cs_value.specs.declared.value.OwnedField.TheVariants.{Undefined, Defined}
 use Rattle.cs_value.specs.Varint.{varint}
 
--- bytes behind the count of them
+-- bytes after their count
 unfoldable pub counted : List ℕ → List ℕ
 counted bytes = varint (length bytes) ++ bytes
 

@@ -60,7 +60,7 @@ pub record TableData : Type 0 where
   pub schema : SchemaData
   pub rows : RowMap
 
--- NULL stands in a column that refuses it
+-- NULL is in a column that refuses it
 abbrev pub has_null : List Bool → List OwnedField → Bool
 has_null [] fields = false
 has_null (mark ∷ refuses) [] = false
@@ -71,7 +71,7 @@ has_null (mark ∷ refuses) (field ∷ fields) = has_null refuses fields
 abbrev pub Obeys : List Bool → List OwnedValue → Type 0
 Obeys refuses row = has_null refuses (map_list Defined row) ≡ false
 
--- a row that may stand in a table of this schema, and its key
+-- a row that may be in a table of this schema, and its key
 pub record IsRowAt (schema : SchemaData) (key : List ℕ) (row : List OwnedValue) : Type 0 where
   pub values : IsRow row
   pub keyed : IsKeyedRow schema.flags row
@@ -115,23 +115,23 @@ with_table state name schema = map.insert state name (record { schema = schema; 
 abbrev pub with_rows : State → List ℕ → RowMap → State
 with_rows state name rows = unwrap_or (option_map (λ table. map.insert state name (record table { rows = rows })) (map.get state name)) state
 
--- the row stands under the key
+-- the row is under the key
 abbrev pub with_row : State → List ℕ → List ℕ → List OwnedValue → State
 with_row state name key row = with_rows state name (map.insert (rows_at state name) key row)
 
--- no row stands under the key
+-- no row is under the key
 abbrev pub without_row : State → List ℕ → List ℕ → State
 without_row state name key = with_rows state name (map.remove (rows_at state name) key)
 
--- ---- what is told of a write
+-- ---- what is reported of a write
 
--- a key that was written, and the row that stood under it before
+-- a key that was written, and its previous row
 pub record WrittenData : Type 0 where
   pub table : List ℕ
   pub key : List ℕ
   pub former : Option (List OwnedValue)
 
--- a key of a state, with the row that stands under it
+-- a key of a state, with its row
 abbrev pub written_at : State → List ℕ → List ℕ → WrittenData
 written_at state name key = record { table = name; key = key; former = row_at state name key }
 

@@ -1,4 +1,4 @@
--- What a table has: a name, columns of which some are its primary key, rows. After the format comment of SQLite's
+-- What a table has: a name, columns, some of them its primary key, rows. After the format comment of SQLite's
 -- sqlite3session.c, under "changeset format".
 use Rattle.std.specs.Prelude.{◌≢◌, ℕ, zero, suc, ◌<◌, ◌≤◌, List, [], ◌∷◌, length, Any, IsUtf8}
 use Rattle.std.specs.List.{AllByRecursion}

@@ -1,5 +1,5 @@
 -- How the format of SQLite's changesets spells a count: the format comment of sqlite3session.c, where a varint is "as
--- described in the SQLite file format". This project accepts the shortest spelling alone, of the numbers below 2^31.
+-- described in the SQLite file format". This project accepts only the shortest spelling, of the numbers below 2^31.
 use Rattle.std.specs.Prelude.{ℕ, zero, suc, ◌+◌, ◌/◌, ◌%◌, ◌==◌, if◌then◌else◌, List, [], ◌∷◌, ◌++◌}
 
 -- the digits of n to base 128 without leading zeros, none for 0, the most significant first, each with 128 added; n

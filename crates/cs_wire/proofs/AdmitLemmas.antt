@@ -5,7 +5,7 @@ use Rattle.cs_value.specs.declared.value.OwnedField.TheVariants.{Undefined}
 use Rattle.cs_value.specs.Value.{IsField, IsRecord}
 use Rattle.cs_wire_entries.specs.Entry.{IsKeyedUpdate}
 
--- the update of this column alone fits its flag
+-- the update of this single column fits its flag
 pub record IsUpdateColumn (flags : List ℕ) (old new : List OwnedField) (column : ℕ) : Type 0 where
   pub is_old : IsField (get_or old column Undefined)
   pub is_new : IsField (get_or new column Undefined)

@@ -26,7 +26,7 @@ use Rattle.cs_wire_entries.proofs.EntryLemmas.{entry_bytes_some}
 use Rattle.cs_wire.proofs.GroupLemmas.{HasOtherKey, IsChangeset-push}
 use Rattle.cs_wire.proofs.GroupsLemmas.{group_bytes_some, group_first, EntryStart-none}
 
--- ---- groups of which the last may have no entry yet
+-- ---- groups, the last of them perhaps without an entry yet
 
 IsBegun-group : (group : GroupData) → IsGroup group → IsBegun group
 IsBegun-group group is = record { header = is.header; each = is.each; once = is.once }
@@ -56,7 +56,7 @@ Begins-whole file groups are e = record {
   };
 }
 
--- ---- what stands behind groups
+-- ---- what comes after groups
 
 rest_behind : (file : List ℕ) (place to : ℕ) (groups others all : List GroupData) → Stands file 0 (file_bytes groups) place → Stands file 0 (file_bytes all) to → all ≡ groups ++ others
     → drop place file ≡ file_bytes others ++ drop to file
@@ -65,13 +65,13 @@ rest_behind file place to groups others all here there is =
     rw (is, flat_map-append group_bytes groups others) (append_assoc (file_bytes groups) (file_bytes others) (drop to file)) in
     rest_is file 0 place (file_bytes groups) (file_bytes others ++ drop to file) here (there.spelled ∙ regrouped)
 
--- nothing stands between two groups' ends at one place
+-- nothing is between two groups' ends at one place
 pub no_others : (file : List ℕ) (place : ℕ) (groups others all : List GroupData) → Stands file 0 (file_bytes groups) place → Stands file 0 (file_bytes all) place → all ≡ groups ++ others → others ≡ []
 no_others file place groups [] all here there is = refl
 no_others file place groups (group ∷ others) all here there is =
     absurd (omega (arith, ap length (rest_behind file place place groups (group ∷ others) all here there is), length-append (file_bytes (group ∷ others)) (drop place file), length-append (group_bytes group) (file_bytes others), group_bytes_some group))
 
--- the group behind others
+-- the group after others
 at_seam : (groups others all : List GroupData) (group d : GroupData) → all ≡ groups ++ group ∷ others → get_or all (length groups) d ≡ group
 at_seam groups others all group d is = rw is (get_or_at groups group others d (length groups) refl)
 
@@ -116,7 +116,7 @@ module _ (file : List ℕ) (place : ℕ) (header : HeaderData) (entries : List E
   }
 
   module _ (all : List GroupData) (to : ℕ) (begins : Begins file to all) (on : GoesOn all start.groups header entries) where
-    -- what stands behind the entries that were passed
+    -- what comes after the entries that were passed
     pub rest_on : drop place file ≡ entries_bytes on.more ++ (file_bytes on.others ++ drop to file)
     unfolding group_bytes
     rest_on =
@@ -134,7 +134,7 @@ module _ (file : List ℕ) (place : ℕ) (header : HeaderData) (entries : List E
             ∙ ap (λ (x : List ℕ). h ++ x) (append_assoc es more (others ++ rest)) ∙ sym (append_assoc h es (more ++ (others ++ rest))))
             ∙ sym (append_assoc a (h ++ es) (more ++ (others ++ rest)))
 
-    -- where no entry stands there is none more
+    -- if there is no entry, there is none more
     pub no_more : (HasEntry file place → ⊥) → on.more ≡ []
     no_more none = by on.more refl
       where
@@ -162,7 +162,7 @@ between_start file = record {
   begins = λ all to begins le. (all, refl);
 }
 
--- behind a table that has an entry, where no other stands
+-- after a table that has an entry, if there is no other
 pub between_table : (file : List ℕ) (place : ℕ) (header : HeaderData) (entries : List Entry) (start : EntryStart file place header entries)
     → ((all : List GroupData) (to : ℕ) → Begins file to all → place ≤ to → GoesOn all start.groups header entries) → 0 < length entries → (HasEntry file place → ⊥)
     → IsBetween file place (start.groups ++ record { header = header; entries = entries } ∷ [])
@@ -185,7 +185,7 @@ module _ (file : List ℕ) (place : ℕ) (groups : List GroupData) (so : IsBetwe
       let on = so.begins all place b (omega arith) in
       on.1 ∙ ap (λ (x : List GroupData). groups ++ x) (no_others file place groups on.0 all so.stand b.stand on.1) ∙ append-nil groups
 
-  -- the next header, where something stands behind this place that the file begins with
+  -- the next header, if the file begins with something after this place
   pub record HasHeader (all : List GroupData) (to : ℕ) : Type 0 where
     pub group : GroupData
     pub others : List GroupData
@@ -256,7 +256,7 @@ module _ (file : List ℕ) (place : ℕ) (header : HeaderData) (entries : List E
       by (entry ∷ more) others is e =
           absurd (omega (arith, ap length e, length-append (entry_bytes entry ++ entries_bytes more) (file_bytes others ++ drop place file), length-append (entry_bytes entry) (entries_bytes more), entry_bytes_some entry, length-append (file_bytes others) (drop place file)))
 
-  -- the next entry, where one stands here and something behind this place that the file begins with
+  -- the next entry, if there is one here, and the file begins with something after this place
   pub record HasNext (all : List GroupData) (to : ℕ) : Type 0 where
     pub entry : Entry
     pub more : List Entry
@@ -330,7 +330,7 @@ module _ (file : List ℕ) (place : ℕ) (header : HeaderData) (entries : List E
         let same = only x.entry x.rest x.is_entry x.spelled in
         old (rw same x.fresh)
 
-  -- behind the next entry
+  -- after the next entry
   abbrev pub EntryStart-push : (entry : Entry) (next : ℕ) → IsEntry header.flags entry → IsNewKey header.flags entries (key_of header.flags entry.change) → Stands file place (entry_bytes entry) next
       → EntryStart file next header (entries ++ entry ∷ [])
   EntryStart-push entry next is fresh stands = record {
@@ -347,7 +347,7 @@ module _ (file : List ℕ) (place : ℕ) (header : HeaderData) (entries : List E
 
 -- ---- a step of a walk
 
--- between tables, where no header is open, or one that has an entry, and no other stands here
+-- between tables, if no header is open, or one that has an entry, and no other is here
 pub between : (file : List ℕ) (place : ℕ) (flags : List ℕ) (is_bare : Bool) (names keys : List (List ℕ)) → IsWalk file place flags is_bare names keys → is_bare ≡ false → (0 < length flags → HasEntry file place → ⊥)
     → (groups : List GroupData) × IsBetween file place groups × Knows names (group_names groups)
 between file place flags is_bare names keys (inl start) bare none = ([], rw start.place_is (between_start file), start.knows_names)
@@ -509,7 +509,7 @@ Begins-none file = record {
   stand = (between_start file).stand;
 }
 
--- the last group with one more entry, where it stands
+-- the last group with one more entry, if it is there
 pub set_last : (groups : List GroupData) (count : ℕ) (last grown : GroupData) (entry : Entry) → count ≡ length groups → 0 < length groups → last ≡ get_or groups (count - 1) last
     → grown ≡ record { header = last.header; entries = last.entries ++ entry ∷ [] } → set groups (count - 1) grown ≡ with_entry groups entry
 set_last [] count last grown entry counted some is grown_is = absurd (omega (arith, some))

@@ -1,4 +1,4 @@
--- An entry is told by its images.
+-- An entry is determined by its images.
 use Rattle.std.proofs.Common.{◌≡◌, ℕ, zero, suc, List, [], ◌∷◌, map, Option, Some, None, refl, sym, ap, ◌∙◌}
 use Rattle.cs_value.specs.declared.value.OwnedValue.{OwnedValue}
 use Rattle.cs_value.specs.declared.value.OwnedField.{OwnedField}
@@ -66,7 +66,7 @@ same_change flags (Update old new) (Delete s) p q before after = absurd (no_some
 same_change flags (Update old m) (Update other n) p q before after =
     same_update flags old m other n p.2 q.2 (same_some old other before) (same_some (with_key flags old m) (with_key flags other n) after)
 
--- an entry has one inverse alone
+-- an entry has exactly one inverse
 pub entry_inverses : EntryInverses
 entry_inverses flags entry inverse other p q i j =
     let image : image_of flags inverse ≡ image_of flags other = i.image ∙ sym j.image in

@@ -31,7 +31,7 @@ computing : Unit {0}
 unfolding leading_digits varint counted value_bytes field_bytes entry_bytes flags_bytes header_bytes group_bytes encode_utf8 chars is_utf8
 computing = tt
 
--- what is said of one element is said of each of a list of it alone
+-- what holds of one element holds of each of the list with only it
 pub one : {X : Type 0} (P : X → Type 0) (e : X) → P e → All P (e ∷ [])
 one P e h = All-cons P e [] h (All-nil P)
 
@@ -147,7 +147,7 @@ pub row_is : IsRow row
 unfolding computing
 row_is = (record { sfits = omega arith }, ((IsUtf8-from_is_utf8 (codes "x") refl, omega arith), tt))
 
--- and 1 may stand in the key
+-- and 1 may be in the key
 pub row_is_keyed : IsKeyedRow flags row
 row_is_keyed = (λ same. cc, tt)
 
@@ -182,17 +182,17 @@ update_back_is_changeset = one_change_is_changeset (update y x) (update_is_chang
 abbrev pub null_row : List OwnedValue
 null_row = Int (negsuc 9223372036854775807) ∷ Null ∷ []
 
--- NULL may stand outside the key: the insertion of the least integer and NULL is a changeset
+-- NULL may be outside the key: the insertion of the least integer and NULL is a changeset
 pub null_row_is_changeset : IsChangeset (one_change (Insert null_row))
 null_row_is_changeset = one_change_is_changeset (Insert null_row) ((record { sfits = omega arith }, (tt, tt)), (λ same. cc, tt))
 
 -- what else is spelled
 others_are_spelled :
     (file_bytes [] ≡ [])
-    -- the indirect flag is the byte behind the operation
+    -- the indirect flag is the byte after the operation
     × (entry_bytes (record { indirect = true; change = Delete row })
     ≡ 0x09 ∷ 0x01 ∷ 0x01 ∷ 0 ∷ 0 ∷ 0 ∷ 0 ∷ 0 ∷ 0 ∷ 0 ∷ 1 ∷ 0x03 ∷ 0x01 ∷ 0x78 ∷ [])
-    -- NULL is its type alone
+    -- NULL is only its type
     × (file_bytes (one_change (Insert null_row))
     ≡ 0x54 ∷ 0x02 ∷ 0x01 ∷ 0x00 ∷ 0x74 ∷ 0x00 ∷ 0x12 ∷ 0x00 ∷ 0x01 ∷ 0x80 ∷ 0 ∷ 0 ∷ 0 ∷ 0 ∷ 0 ∷ 0 ∷ 0 ∷ 0x05 ∷ [])
 unfolding computing
@@ -257,7 +257,7 @@ keys_insert_is_changeset = one_is_changeset keys_header (Insert keys_row) keys_h
 pub keys_delete_is_changeset : IsChangeset (one_change_of keys_header (Delete keys_row))
 keys_delete_is_changeset = one_is_changeset keys_header (Delete keys_row) keys_header_is (keys_row_is, keys_row_is_keyed)
 
--- in their files the flags stand as they are
+-- in their files the flags are unchanged
 pub keys_insert_is_spelled : file_bytes (one_change_of keys_header (Insert keys_row)) ≡ keys_file 0x12
 unfolding computing
 keys_insert_is_spelled = refl
@@ -304,7 +304,7 @@ rows_are_none :
     -- one without its key, and one of NULL in the key
     × (IsKeyedUpdate flags (Undefined ∷ Defined x ∷ []) (Undefined ∷ Defined y ∷ []) → ⊥)
     × (IsKeyedUpdate flags (Defined Null ∷ Defined x ∷ []) (Undefined ∷ Defined y ∷ []) → ⊥)
-    -- one that has the value before alone, and one that has the value after alone
+    -- one that has only the value before, and one that has only the value after
     × (IsKeyedUpdate flags (Defined (Int (pos 1)) ∷ Defined x ∷ []) (Undefined ∷ Undefined ∷ []) → ⊥)
     × (IsKeyedUpdate flags (Defined (Int (pos 1)) ∷ Undefined ∷ []) (Undefined ∷ Defined y ∷ []) → ⊥)
 rows_are_none = (λ h. h.0 refl, λ h. h.1, λ h. h.0, λ h. h.0, λ h. h.0 refl, λ h. h.1.0, λ h. h.1.0)
@@ -336,17 +336,17 @@ x_field = 0x03 ∷ 0x01 ∷ 0x78 ∷ []
 no_table : (file : List ℕ) → TableStart file 0 []
 no_table file = record { are = no_group_is_changeset; stand = record { spelled = refl; within = omega arith } }
 
--- a text stands behind the first byte of a header that begins the file
+-- a text comes after the first byte of a header that begins the file
 in_header : (file text : List ℕ) (at : ℕ) → Stands file 0 (0x54 ∷ text) at → HeaderPart file text at
 in_header file text at stands = record { from = 0; groups = []; start = no_table file; stands = stands }
 
--- behind the header an entry may begin
+-- after the header an entry may begin
 after_header : (rest : List ℕ) → EntryStart (header_file ++ rest) 6 header []
 unfolding computing
 after_header rest =
     EntryStart-none (header_file ++ rest) 0 6 [] header (no_table (header_file ++ rest)) header_is (All-nil (λ g. g.header.name ≢ header.name)) (record { spelled = refl; within = omega arith })
 
--- where the first entry begins with these bytes, its next field: behind so many fields of this change
+-- if the first entry begins with these bytes, its next field: after so many fields of this change
 field_behind : (entry : List ℕ) (at : ℕ) (change : Change) (count : ℕ) → IsChange flags change
     → count < length (fields_of change) → Stands (header_file ++ entry) 6 (change_front change false count) at
     → FieldStart (header_file ++ entry) at flags change count
@@ -362,14 +362,14 @@ field_behind entry at change count is more stand = record {
   stand = stand;
 }
 
--- behind its operation and its indirect flag the first field of an insert
+-- after its operation and its indirect flag the first field of an insert
 insert_field : (rest : List ℕ) → FieldStart (header_file ++ 0x12 ∷ 0x00 ∷ rest) 8 flags (Insert row) 0
 unfolding computing
 insert_field rest =
     field_behind (0x12 ∷ 0x00 ∷ rest) 8 (Insert row) 0 (row_is, row_is_keyed) (omega arith)
     (record { spelled = refl; within = omega arith })
 
--- and behind the field 1 the second
+-- and after the field 1 the second
 second_insert_field : (rest : List ℕ) → FieldStart (header_file ++ 0x12 ∷ 0x00 ∷ (one_field ++ rest)) 17 flags (Insert row) 1
 unfolding computing
 second_insert_field rest =
@@ -383,14 +383,14 @@ old_field rest =
     field_behind (0x17 ∷ 0x00 ∷ rest) 8 (update x y) 0 (update_is_change x y x_is y_is) (omega arith)
     (record { spelled = refl; within = omega arith })
 
--- and the first of the new record, behind the old one
+-- and the first of the new record, after the old one
 new_field : (rest : List ℕ) → FieldStart (header_file ++ 0x17 ∷ 0x00 ∷ (one_field ++ x_field ++ rest)) 20 flags (update x y) 2
 unfolding computing
 new_field rest =
     field_behind (0x17 ∷ 0x00 ∷ (one_field ++ x_field ++ rest)) 20 (update x y) 2 (update_is_change x y x_is y_is)
     (omega arith) (record { spelled = refl; within = omega arith })
 
--- behind 54 stands no count, for this reason
+-- after 54 there is no count, for this reason
 no_count : (rest : List ℕ) (kind : FieldFaultKind) (behind : ℕ) → VarintFails rest kind behind
     → HasNoCount (0x54 ∷ rest) kind (1 + behind)
 no_count rest kind behind fails = record {
@@ -401,7 +401,7 @@ no_count rest kind behind fails = record {
   place_is = refl;
 }
 
--- where a field may begin stands none, for this reason
+-- where a field may begin there is none, for this reason
 no_field : {file : List ℕ} {at : ℕ} {change : Change} {count : ℕ} (kind : FieldFaultKind) (behind : ℕ)
     → FieldStart file at flags change count → FieldFails (drop at file) kind behind → HasNoField file kind (at + behind)
 no_field {at = at} {change = change} {count = count} kind behind start fails = record {
@@ -415,7 +415,7 @@ no_field {at = at} {change = change} {count = count} kind behind start fails = r
   place_is = refl;
 }
 
--- this field stands in the first column of a row or of an old record
+-- this field is in the first column of a row or of an old record
 first_field : {file : List ℕ} {change : Change} {found : OwnedField} {Holds : List ℕ → Change → ℕ → Type 0}
     → FieldStart file 8 flags change 0 → Stands file 8 (field_bytes found) 9 → Holds flags change 0
     → StandsBefore file 8 found Holds
@@ -430,7 +430,7 @@ first_field {change = change} start stands holds = record {
   holds = holds;
 }
 
--- behind 54 stands no count
+-- after 54 there is no count
 no_count_is_truncated : ReadCase (0x54 ∷ []) Truncated 1
 no_count_is_truncated =
     inl (inl (no_count [] field.Truncated 0 (record { few = omega arith; go_on = tt; shortest = λ same. cc }, refl)))
@@ -463,7 +463,7 @@ open_name_is_truncated = inr (
   refl,
 )
 
--- behind an operation stands no indirect flag
+-- after an operation there is no indirect flag
 no_flag_byte_is_truncated : ReadCase (header_file ++ 0x12 ∷ []) Truncated 7
 no_flag_byte_is_truncated = inr (
   inr (inr (record {
@@ -478,7 +478,7 @@ no_flag_byte_is_truncated = inr (
   refl,
 )
 
--- a row ends behind its first field
+-- a row ends after its first field
 no_second_field_is_truncated : ReadCase (header_file ++ 0x12 ∷ 0x00 ∷ (one_field ++ [])) Truncated 17
 no_second_field_is_truncated = inl (inr (no_field field.Truncated 0 (second_insert_field []) (inl refl, refl)))
 
@@ -536,7 +536,7 @@ empty_name_is_bad = record {
   bad = inl refl;
 }
 
--- the table `t` stands twice
+-- the table `t` is there twice
 second_table_is_duplicate : ReadCase (insert_file ++ insert_file) DuplicateTable 20
 unfolding computing
 second_table_is_duplicate = record {
@@ -611,7 +611,7 @@ fields_are_refused = (
   no_field field.BadText 2 (second_insert_field (0x03 ∷ 0x01 ∷ 0xff ∷ [])) ff_is_no_text,
 )
 
--- fields that may not stand there
+-- fields that may not be there
 fields_may_not_stand :
     ReadCase (header_file ++ 0x12 ∷ 0x00 ∷ 0x00 ∷ []) UndefinedField 8  -- the first of a row
     × ReadCase (header_file ++ 0x17 ∷ 0x00 ∷ 0x00 ∷ []) UndefinedField 8  -- the key of an old record

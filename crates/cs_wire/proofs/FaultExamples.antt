@@ -86,7 +86,7 @@ other_begin file other Unpaired place h = absurd (other (field_first file place 
 other_begin file other NullKey place h = absurd (other (field_first file place h.flags h.change h.column h.start))
 other_begin file other DuplicateKey place h = absurd (other (entry_first file place h.header h.entries h.start))
 
--- the file of the byte 41 has one fault alone
+-- the file of the byte 41 has exactly one fault
 pub letter_has_one_fault : (kind : ReadFaultKind) (place : ℕ) → ReadCase (0x41 ∷ []) kind place → (kind ≡ NotTable) × (place ≡ 0)
 letter_has_one_fault kind place h =
     elim (other_begin (0x41 ∷ []) (λ same. absurd (omega (arith, same))) kind place h) [
@@ -187,7 +187,7 @@ entry_two : (entry : Entry) → 2 ≤ length (entry_bytes entry)
 unfolding entry_bytes
 entry_two entry = omega arith
 
--- in front of the seventh byte stands no entry
+-- before the seventh byte there is no entry
 no_entry_yet : (file : List ℕ) (header : HeaderData) (entries : List Entry) → EntryStart file 6 header entries → entries ≡ []
 no_entry_yet file header [] start = refl
 no_entry_yet file header (entry ∷ entries) start =
@@ -200,7 +200,7 @@ first_entry_is_new h =
     let none = no_entry_yet insert_file h.header h.entries h.start in
     h.not_new (subst (λ (entries : List Entry). IsNewKey h.header.flags entries (key_of h.header.flags h.entry.change)) (sym none) (All-nil (λ e. key_of h.header.flags e.change ≢ key_of h.header.flags h.entry.change)))
 
--- what is met where an entry may begin, and is no such fault
+-- what is there where an entry may begin, and is no such fault
 entries_are_no_faults :
     (ReadCase (header_file ++ 0x13 ∷ []) EmptyGroup 6 → ⊥)  -- a byte is met: the table is not empty
     × (ReadCase (header_file ++ 0x50 ∷ []) BadOp 6 → ⊥)  -- 50 begins no entry
@@ -274,6 +274,6 @@ field_some (Defined (Text t)) = omega arith
 field_some (Defined (Blob b)) = omega arith
 field_some (Defined Null) = omega arith
 
--- and so none stands at the end, which an unpaired one would
+-- and so there is none at the end, as for an unpaired one
 end_is_not_unpaired : ReadCase header_file Unpaired 6 → ⊥
 end_is_not_unpaired h = absurd (omega (arith, ap length h.stands.spelled, length-append (field_bytes h.found) (drop h.to header_file), field_some h.found))

@@ -76,7 +76,7 @@ fields_are flags (Insert row) h = IsRecord-map row h.0
 fields_are flags (Delete row) h = IsRecord-map row h.0
 fields_are flags (Update old new) h = AllByRecursion-append IsField old new h.0 h.1
 
--- the indirect flag is told by its byte
+-- the indirect flag is known by its byte
 same_flag : (a b : Bool) → ◌≡◌ {A = ℕ} (cond a 1 0) (cond b 1 0) → a ≡ b
 same_flag true true e = refl
 same_flag false false e = refl

@@ -35,7 +35,7 @@ pub ends_group : (others : List GroupData) → EndsGroup (file_bytes others)
 ends_group [] = inl refl
 ends_group (group ∷ others) = inr (group_first group (file_bytes others))
 
--- behind the header of a new table its entries begin
+-- after the header of a new table its entries begin
 abbrev pub EntryStart-none : (file : List ℕ) (at end : ℕ) (groups : List GroupData) (header : HeaderData) → TableStart file at groups → IsHeader header → All (λ g. g.header.name ≢ header.name) groups
     → Stands file at (header_bytes header) end → EntryStart file end header []
 EntryStart-none file at end groups header start is new stands = record {

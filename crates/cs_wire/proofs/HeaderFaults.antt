@@ -11,15 +11,15 @@ use Rattle.cs_wire_entries.specs.Changeset.{GroupData, flags_bytes}
 use Rattle.cs_wire_entries.specs.ReadFaults.{Stands, TableStart, HeaderPart, IsColumnCount, HasNoKey, HasBadName}
 use Rattle.cs_wire_entries.proofs.ReadingLemmas.{Stands-then, Stands-take, Stands-ended, no_zero_before}
 
--- behind more of a header
+-- after more of a header
 pub HeaderPart-more : (file : List ℕ) (at to : ℕ) (text : List ℕ) → HeaderPart file [] at → Stands file at text to → HeaderPart file text to
 HeaderPart-more file at to text part more = record { from = part.from; groups = part.groups; start = part.start; stands = Stands-then file part.from at to (0x54 ∷ []) text part.stands more }
 
--- behind 0x54
+-- after 0x54
 pub HeaderPart-first : (file : List ℕ) (at to : ℕ) (groups : List GroupData) → TableStart file at groups → Stands file at (0x54 ∷ []) to → HeaderPart file [] to
 HeaderPart-first file at to groups start first = record { from = at; groups = groups; start = start; stands = first }
 
--- flags of which none marks a key column
+-- flags that mark no key column
 all_zero : (flags : List ℕ) → (Any (λ flag. 0 < flag) flags → ⊥) → AllByRecursion (λ flag. flag ≡ 0) flags
 all_zero flags none = recursion_from_All (λ flag. flag ≡ 0) flags (λ k d lt.
     elim (cases_lt 0 (get_or flags k d)) [

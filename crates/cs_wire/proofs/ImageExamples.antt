@@ -33,7 +33,7 @@ images_are :
     × (after_image flags idle_update ≡ Some (Defined (Int (pos 1)) ∷ Undefined ∷ []))
 images_are = (refl, refl, refl, refl, refl, refl, refl, refl)
 
--- the row (1, 'x') has what the update says of it before, and what the idle update says, and not what is said of more
+-- the row (1, 'x') has what the update says of it before, and what the no-op update says, and not what is said of more
 -- columns
 row_has_values :
     (HasValues row (Defined (Int (pos 1)) ∷ Defined x ∷ []))

@@ -1,4 +1,4 @@
--- Indexes: where each of some texts stands.
+-- Indexes: where each of some texts is.
 use Rattle.std.proofs.Common.{◌≡◌, ◌≢◌, ℕ, ◌+◌, ◌<◌, List, [], ◌∷◌, ◌++◌, length, map, Bool, true, false, cond, Option, Some, None, All, get_or, take, refl, sym, ap, ◌∙◌, subst, append_assoc, append-nil, ◌≤◌, arith}
 use Rattle.std.specs.Prelude.{◌↔◌, is_none, is_some, IfSome, IsTrue, slice_get}
 use Rattle.std.specs.Ordering.{nat_cmp, eq_by_cmp}

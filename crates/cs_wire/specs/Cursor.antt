@@ -14,13 +14,13 @@ use Rattle.cs_wire_entries.specs.Changeset.{GroupData, IsFileOf, IsHeader, IsNew
 use Rattle.cs_wire.specs.Headers.{header_of}
 use Rattle.cs_wire_entries.specs.ReadFaults.{Stands, ReadFails}
 
--- the changes of a table, of which there may be none yet
+-- the changes of a table, perhaps none yet
 pub record IsBegun (group : GroupData) : Type 0 where
   pub header : IsHeader group.header
   pub each : All (IsEntry group.header.flags) group.entries
   pub once : AllPairs (λ d e. key_of group.header.flags d.change ≢ key_of group.header.flags e.change) group.entries
 
--- the changes of tables, no table twice, of which the last may have none yet
+-- the changes of tables, no table twice, the last of them perhaps without any yet
 pub record IsOpen (groups : List GroupData) : Type 0 where
   pub each : All IsBegun groups
   pub some : AllPairs (λ g h. 0 < length g.entries) groups
@@ -53,12 +53,12 @@ abbrev pub IsItem : Item → Type 0
 IsItem (item.Table header) = IsHeader (header_of header)
 IsItem (item.Entry seen) = IsFlags seen.flags × IsEntry seen.flags seen.entry
 
--- a table is another than those of the groups; an entry is of the last of them, of which there is one
+-- a table is another than those of the groups; an entry is of the last of them, and there is one
 abbrev pub IsNext : List GroupData → Item → Type 0
 IsNext groups (item.Table header) = IsNewName groups header.name.now
 IsNext groups (item.Entry seen) = (0 < length groups) × (seen.flags ≡ last_flags groups)
 
--- what contracts see of a cursor: its file, the place behind what it handed out, and how it ended
+-- what contracts see of a cursor: its file, the place after what it handed out, and how it ended
 pub record CursorData : Type 0 where
   pub file : List ℕ
   pub place : ℕ

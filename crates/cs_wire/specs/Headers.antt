@@ -1,4 +1,4 @@
--- What is seen of a header where it stands in a file; this project's own.
+-- What is seen of a header in a file; this project's own.
 use Rattle.cs_wire.specs.declared.header.HeaderRef.{HeaderRef}
 use Rattle.cs_wire_entries.specs.Changeset.{HeaderData}
 

@@ -24,7 +24,7 @@ RowKeys = (flags : List ℕ) (change : Change) (row : List OwnedValue) → IsCha
     → (IsSaidOf (before_image change) row → row_key flags row ≡ key_of flags change)
     × (IsSaidOf (after_image flags change) row → row_key flags row ≡ key_of flags change)
 
--- an entry has one inverse alone
+-- an entry has exactly one inverse
 abbrev pub EntryInverses : Type 0
 EntryInverses = (flags : List ℕ) (entry inverse other : Entry) → IsEntry flags inverse → IsEntry flags other
     → IsInverseEntry flags entry inverse → IsInverseEntry flags entry other → inverse ≡ other

@@ -1,8 +1,8 @@
--- The words by which texts that were met are mostly told apart.
+-- The words by which texts are mostly distinguished.
 use Rattle.std.specs.Prelude.{ℕ, List, [], ◌∷◌, get_or}
 use Rattle.std.specs.Int.{w64, from_be_bytes}
 
--- the eight bytes behind the first, as a number that is written big end first, where a byte that is not there counts as
+-- the eight bytes after the first, as a number that is written big end first, where a byte that is not there counts as
 -- 0
 unfoldable pub word_of : List ℕ → ℕ
 word_of text =

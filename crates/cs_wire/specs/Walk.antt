@@ -17,7 +17,7 @@ pub record WalkData : Type 0 where
 abbrev pub Knows : List (List ℕ) → List (List ℕ) → Type 0
 Knows seen texts = (text : List ℕ) → All (λ t. t ≢ text) seen ↔ All (λ t. t ≢ text) texts
 
--- behind these tables and a header there are these entries, and then perhaps more, and other tables
+-- after these tables and a header there are these entries, and then perhaps more, and other tables
 pub record GoesOn (all closed : List GroupData) (header : HeaderData) (entries : List Entry) : Type 0 where
   pub more : List Entry
   pub others : List GroupData
@@ -39,7 +39,7 @@ pub record IsInTable (file : List ℕ) (place : ℕ) (flags : List ℕ) (is_bare
   pub bare : is_bare ≡ (length entries == 0)
   pub knows_names : Knows names (group_names start.groups ++ header.name ∷ [])
   pub knows_keys : Knows keys (group_keys header.flags entries)
-  -- whatever the file begins with, up to this place or another behind it, begins with them
+  -- whatever the file begins with, up to this place or a later one, begins with them
   pub begins : (all : List GroupData) (to : ℕ) → Begins file to all → place ≤ to → GoesOn all start.groups header entries
 
 abbrev pub IsWalk : List ℕ → ℕ → List ℕ → Bool → List (List ℕ) → List (List ℕ) → Type 0

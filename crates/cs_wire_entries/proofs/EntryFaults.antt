@@ -26,7 +26,7 @@ use Rattle.cs_wire_entries.proofs.EntryLemmas.{length-IsKeyedUpdate}
 use Rattle.cs_wire_entries.proofs.FieldsLemmas.{want_at, length-new_wants}
 use Rattle.cs_wire_entries.proofs.ChangeLemmas.{key_flag, new_met}
 
--- no field stands where one is to begin
+-- there is no field where one is to begin
 no_field_case : (file : List ℕ) (place : ℕ) (why : FieldFaultKind) → HasNoField file why place → ReadCase file (kind_of why) place
 no_field_case file place field.Truncated h = inl (inr h)
 no_field_case file place field.BadVarint h = inr h
@@ -120,7 +120,7 @@ unlike_nothing : (v : OwnedValue) (f : OwnedField) → refusal Nothing f ≡ Non
 unlike_nothing v Undefined met same = same
 unlike_nothing v (Defined w) met same = cc
 
--- a field that stands in a row or in an old record
+-- a field of a row or of an old record
 before : {file : List ℕ} {place : ℕ} {found : OwnedField} {Holds : List ℕ → Change → ℕ → Type 0} (flags : List ℕ) (change : Change) (column to : ℕ) → FieldStart file place flags change column
     → column < length flags → Stands file place (field_bytes found) to → Holds flags change column → StandsBefore file place found Holds
 before flags change column to start in_row stands holds = record { flags = flags; change = change; column = column; to = to; start = start; in_row = in_row; stands = stands; holds = holds }
@@ -131,7 +131,7 @@ unpaired : {file : List ℕ} {place : ℕ} (flags : List ℕ) (change : Change) 
 unpaired flags change count found to start in_new is stands unlike =
     record { flags = flags; change = change; count = count; found = found; to = to; start = start; in_new = in_new; is_field = is; stands = stands; unlike = unlike }
 
--- a field that is not wanted stands where one is to begin
+-- a field that is not wanted is where one is to begin
 other_field_case : (file : List ℕ) (place : ℕ) (flags : List ℕ) (change : Change) (count : ℕ) (want : Want) (f : OwnedField) (to : ℕ) (kind : ReadFaultKind) → FieldStart file place flags change count
     → Means flags change count want → IsField f → Stands file place (field_bytes f) to → refusal want f ≡ Some kind → ReadCase file kind place
 unfolding Means
@@ -150,7 +150,7 @@ other_field_case file place flags change count Nothing Undefined to kind start m
 other_field_case file place flags change count Nothing (Defined v) to kind start m is stands why =
     subst (λ (k : ReadFaultKind). ReadCase file k place) (some_is Unpaired kind why) (unpaired flags change count (Defined v) to start m.0 is stands (unlike_nothing v (get_or (fields_of change) count Undefined) m.1))
 
--- a change that is refused behind an operation and an indirect flag
+-- a change that is refused after an operation and an indirect flag
 pub change_case : (file : List ℕ) (from at : ℕ) (header : HeaderData) (entries : List Entry) (byte : ℕ) (indirect : Bool) (flags : List ℕ) → flags ≡ header.flags → EntryStart file from header entries
     → Stands file from (byte ∷ cond indirect 1 0 ∷ []) at → (kind : ReadFaultKind) (place : ℕ) → ChangeRefused byte flags file at kind place → ReadCase file kind place
 change_case file from at header entries byte indirect flags same start stands kind place r =

@@ -27,7 +27,7 @@ length-IsKeyedUpdate (zero ∷ flags) (o ∷ old) (n ∷ new) h =
 length-IsKeyedUpdate (suc flag ∷ flags) (o ∷ old) (n ∷ new) h =
     let others = length-IsKeyedUpdate flags old new h.1 in (ap suc others.0, ap suc others.1)
 
--- ---- what a change does, as a `match` on it tells
+-- ---- what a change does, as a `match` on it says
 
 -- it is the change of a whole row
 abbrev pub IsOf : Change → List OwnedValue → Type 0

@@ -20,7 +20,7 @@ length-Meets (w ∷ wants) (f ∷ fields) h = ap suc (length-Meets wants fields 
 length-Meets [] (f ∷ fields) h = absurd h
 length-Meets (w ∷ wants) [] h = absurd h
 
--- the field behind as many as there are wants before its own
+-- the field after as many as there are wants before its own
 Meets-at : (wants : List Want) (fields : List OwnedField) (f : OwnedField) (others : List OwnedField) → Meets wants (fields ++ f ∷ others) → refusal (get_or wants (length fields) AnyField) f ≡ None
 Meets-at [] [] f others h = absurd h
 Meets-at [] (g ∷ fields) f others h = absurd h
@@ -65,7 +65,7 @@ length-new_wants (flag ∷ flags) (o ∷ old) same = ap suc (length-new_wants fl
 
 -- ---- records
 
--- each record that is wanted and stands there begins with these fields
+-- each record that is wanted and is there begins with these fields
 abbrev pub BeginsRecords : List Want → List ℕ → ℕ → List OwnedField → Type 0
 BeginsRecords wants file at fields = (all : List OwnedField) (rest : List ℕ) → IsRecord all → Meets wants all → drop at file ≡ record_bytes all ++ rest
     → (others : List OwnedField) × (all ≡ fields ++ others)
@@ -88,7 +88,7 @@ FieldsSoFar-none wants file at le = record {
   begins = λ all rest h m e. (all, refl);
 }
 
--- the next field of a record that stands there
+-- the next field of a record
 pub record HasNextField (want : Want) (file : List ℕ) (fields : List OwnedField) (end : ℕ) (all : List OwnedField) : Type 0 where
   pub field : OwnedField
   pub others : List OwnedField
@@ -115,7 +115,7 @@ module _ {wants : List Want} {file : List ℕ} {at i : ℕ} {fields : List Owned
         rest_is file at end (record_bytes fields) (field_bytes field ++ (record_bytes others ++ rest)) so.stands (e ∙ regrouped);
   }
 
-  -- while a column is left, a record that stands there has a field for it
+  -- while a column is left, a record has a field for it
   pub has_next : (all : List OwnedField) (rest : List ℕ) → IsRecord all → Meets wants all → drop at file ≡ record_bytes all ++ rest → HasNextField want file fields end all
   has_next all rest h m e =
       let begun = so.begins all rest h m e in

@@ -1,4 +1,4 @@
--- Fields where they stand in a file.
+-- Fields in a file.
 use Rattle.std.proofs.Common.{◌≡◌, ℕ, zero, suc, ◌+◌, ◌-◌, ◌<◌, ◌≤◌, List, [], ◌∷◌, ◌++◌, length, map, take, drop, get_or, Result, Ok, Err, refl, sym, ap, ◌∙◌, append_assoc, arith}
 use Rattle.std.proofs.lemmas.List.{append-nil, drop_at, drop_all, drop_more, length-map, take_at, get_or_default}
 use Rattle.std.proofs.lemmas.List.Elements.{All-from_recursion}
@@ -18,11 +18,11 @@ use Rattle.cs_wire_entries.proofs.FieldsLemmas.{length-Meets, length-new_wants}
 
 -- ---- the field at the front
 
--- a field that stands there
+-- a field that is there
 pub front_is : (bytes : List ℕ) (f : OwnedField) (used : ℕ) → IsField f → BeginsWith bytes (field_bytes f) used → front_of bytes ≡ (f, used)
 front_is bytes f used is begins = ap read_or_undefined (ap field_at begins.whole ∙ field_again f (drop used bytes) is) ∙ ap (λ (n : ℕ). (f, n)) (sym begins.count)
 
--- none stands there
+-- none is there
 pub front_none : (bytes : List ℕ) → AreBytes bytes → ((f : OwnedField) (rest : List ℕ) → IsField f → bytes ≡ field_bytes f ++ rest → ⊥) → front_of bytes ≡ (Undefined, 0)
 front_none bytes fits none = by_read (field_at bytes) refl
   where
@@ -32,7 +32,7 @@ front_none bytes fits none = by_read (field_at bytes) refl
         absurd (none x.0 (drop x.1 bytes) taken.0 taken.1.whole)
     by_read (Err fault) e = refl
 
--- ---- fields one behind the other
+-- ---- fields one after the other
 
 pub length-fields_in : (count : ℕ) (bytes : List ℕ) → length (fields_in count bytes) ≡ count
 unfolding fields_in

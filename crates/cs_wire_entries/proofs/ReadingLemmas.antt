@@ -1,4 +1,4 @@
--- What stands in a file, one part after another.
+-- The parts of a file, one after another.
 use Rattle.std.proofs.Common.{◌≡◌, ℕ, ◌+◌, ◌<◌, ◌≤◌, List, [], ◌∷◌, ◌++◌, length, take, drop, get_or, Any, refl, sym, ap, ◌∙◌, append_assoc, arith, length-append, inl, inr, ◌≢◌, add-zero}
 use Rattle.std.specs.Prelude.{IsUtf8}
 use Rattle.std.specs.List.{AllByRecursion}
@@ -55,7 +55,7 @@ pub flags_bytes-append : (flags rest : List ℕ) → flags_bytes flags ++ rest �
 unfolding flags_bytes
 flags_bytes-append flags rest = append_assoc (varint (length flags)) flags rest
 
--- where flags stand, their count is read, and they stand behind it
+-- if there are flags, their count is read, and they come after it
 pub flags_counted : (file : List ℕ) (at start count : ℕ) → Stands file at (varint count) start
     → ((n : ℕ) (rest : List ℕ) → n ≤ MAX_CONTENT_LEN → drop at file ≡ varint n ++ rest → count ≡ n)
     → (flags rest : List ℕ) → IsFlags flags → drop at file ≡ flags_bytes flags ++ rest → (count ≡ length flags) × (drop start file ≡ flags ++ rest)
@@ -64,7 +64,7 @@ flags_counted file at start count found only flags rest h e =
     let same : count ≡ length flags = only (length flags) (flags ++ rest) (omega (arith, h.few)) spelled in
     (same, rest_is file at start (varint (length flags)) (flags ++ rest) (rw (← same) found) spelled)
 
--- flags that were read, and that they are those that stand there
+-- flags that were read, and that they are those in the file
 pub IsFlags-read : (file : List ℕ) (start count : ℕ) → ((i : ℕ) → get_or file i 0 < 256) → count ≤ 32767
     → Any (λ flag. 0 < flag) (take count (drop start file)) → IsFlags (take count (drop start file))
 IsFlags-read file start count fits few key = record {
@@ -86,7 +86,7 @@ Stands-flags file at start count flags head le same =
 
 -- ---- names
 
--- the first zero byte is the one behind the name
+-- the first zero byte is the one after the name
 pub name_ended : (left name rest : List ℕ) (n : ℕ) → IsName name → left ≡ name ++ 0 ∷ rest → n < length left → get_or left n 0 ≡ 0
     → ((k : ℕ) → k < n → get_or left k 0 ≡ 0 → ⊥) → n ≡ length name
 name_ended left name rest n h e within at_end before =
@@ -97,7 +97,7 @@ name_ended left name rest n h e within at_end before =
       | inr (inr gt) ↦ absurd (before (length name) gt end)
     ]
 
--- a name stands before a zero byte
+-- a name comes before a zero byte
 pub name_has_end : (left name rest : List ℕ) → left ≡ name ++ 0 ∷ rest → (length name < length left) × (get_or left (length name) 0 ≡ 0)
 name_has_end left name rest e = (omega (arith, ap length e, length-append name (0 ∷ rest)), rw e (get_or_at name 0 rest 0 (length name) refl))
 
@@ -111,7 +111,7 @@ no_zero_before left n before = recursion_from_All (λ b. b ≢ 0) (take n left) 
 pub IsName-read : (left : List ℕ) (n : ℕ) → n < length left → ((k : ℕ) → k < n → get_or left k 0 ≡ 0 → ⊥) → IsUtf8 (take n left) → 0 < length (take n left) → IsName (take n left)
 IsName-read left n within before text some = record { some = some; text = text; no_zero = no_zero_before left n before }
 
--- the text and the byte behind it
+-- the text and the byte after it
 pub Stands-ended : (file : List ℕ) (at n : ℕ) → n < length (drop at file) → get_or (drop at file) n 0 ≡ 0 → Stands file at (take n (drop at file) ++ 0 ∷ []) (at + n + 1)
 Stands-ended file at n within at_end =
     let step = drop_more (drop at file) n 0 within in
@@ -121,7 +121,7 @@ Stands-ended file at n within at_end =
       within = omega (arith, length-drop at file);
     }
 
--- what stands before the first zero byte is the name
+-- the text before the first zero byte is the name
 pub name_taken : (left name rest : List ℕ) (n : ℕ) → IsName name → left ≡ name ++ 0 ∷ rest → n < length left → get_or left n 0 ≡ 0
     → ((k : ℕ) → k < n → get_or left k 0 ≡ 0 → ⊥) → take n left ≡ name
 name_taken left name rest n h e within at_end before = rw (name_ended left name rest n h e within at_end before, e) (take_at name (0 ∷ rest) (length name) refl)
@@ -152,6 +152,6 @@ pub same_header : (name flags : List ℕ) (header : HeaderData) → name ≡ hea
     → ◌≡◌ {A = HeaderData} (record { name = name; flags = flags }) header
 same_header name flags header p q = λ i. record { name = p i; flags = q i }
 
--- a text that has a byte ends behind the place where it begins
+-- a text that has a byte ends after the place where it begins
 pub Stands-moves : (file : List ℕ) (a b : ℕ) (s : List ℕ) → Stands file a s b → 0 < length s → a < length file → a < b
 Stands-moves file a b s h some le = omega (arith, ap length h.spelled, length-append s (drop b file), length-drop a file, length-drop b file, h.within)

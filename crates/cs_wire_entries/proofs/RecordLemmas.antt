@@ -1,4 +1,4 @@
--- The records of a change where they stand in a file.
+-- The records of a change in a file.
 use Rattle.std.proofs.Common.{◌≡◌, ℕ, zero, suc, List, [], ◌∷◌, ◌++◌, length, map, drop, refl, sym, ap, subst, ◌∙◌, inl, inr}
 use Rattle.std.specs.Prelude.{◌⊎◌}
 use Rattle.std.proofs.lemmas.List.{append-nil}
@@ -21,7 +21,7 @@ use Rattle.cs_wire_entries.specs.ReadFaults.{Stands}
 use Rattle.cs_wire_entries.specs.Reading.{row_wants, Meets, IsRecordAt, RecordRefused, ChangeRefused}
 use Rattle.cs_wire_entries.proofs.ChangeLemmas.{row_met, row_values, keyed_row, row_refused, inserted, deleted}
 
--- bytes stand where the text that they are does
+-- the bytes are where their text is
 pub Stands-bytes : (file : List ℕ) (at : ℕ) (bytes text : List ℕ) (end : ℕ) → bytes ≡ text → Stands file at text end → Stands file at bytes end
 Stands-bytes file at bytes text end same h = subst (λ (x : List ℕ). Stands file at x end) (sym same) h
 

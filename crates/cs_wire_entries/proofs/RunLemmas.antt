@@ -1,4 +1,4 @@
--- Key columns that stand side by side.
+-- Key columns that are next to each other.
 use Rattle.std.proofs.Common.{◌≡◌, ℕ, zero, suc, ◌+◌, ◌-◌, ◌<◌, ◌≤◌, Bool, true, false, true≢false, not, List, [], ◌∷◌, ◌++◌, length, length-append, take, drop, get_or, refl, sym, ap, ◌∙◌, arith, take-append-drop}
 use Rattle.std.specs.List.{AllByRecursion}
 use Rattle.std.proofs.lemmas.Bool.{ne_eqb}
@@ -41,7 +41,7 @@ keys_first (flag ∷ flags) [] (suc b) width keys others = absurd (omega arith)
 keys_first (zero ∷ flags) (f ∷ fields) (suc b) width keys others = absurd (true≢false (sym keys.0))
 keys_first (suc flag ∷ flags) (f ∷ fields) (suc b) width keys others = ap (λ (fs : List OwnedField). f ∷ fs) (keys_first flags fields b (omega arith) keys.1 others)
 
--- behind some other columns those of the key, and then others again
+-- after some other columns those of the key, and then others again
 pub key_run : (flags : List ℕ) (fields : List OwnedField) (a b : ℕ) → length flags ≡ length fields → IsRun false (take a flags) → IsRun true (take b (drop a flags)) → IsRun false (drop b (drop a flags))
     → key_columns flags fields ≡ take b (drop a fields)
 key_run flags fields zero b width before keys others = keys_first flags fields b width keys others

@@ -1,5 +1,5 @@
 -- Changesets and their files: the format comment of SQLite's sqlite3session.c, under "changeset format". That each
--- table and each key stands once is this project's own.
+-- table and each key is there once is this project's own.
 use Rattle.std.specs.Prelude.{◌≡◌, ◌≢◌, ℕ, ◌<◌, List, [], ◌∷◌, ◌++◌, length, map, All, AllPairs, Option}
 use Rattle.std.specs.List.{flat_map}
 use Rattle.std.specs.FinMap.{from_entries}

@@ -18,7 +18,7 @@ IsPaired (Defined old) (Defined new) = Unit {0}
 IsPaired Undefined (Defined new) = ⊥
 IsPaired (Defined old) Undefined = ⊥
 
--- a key column has its value, which is not NULL, in the old record alone
+-- a key column has its value, which is not NULL, only in the old record
 abbrev pub IsKeyPair : OwnedField → OwnedField → Type 0
 IsKeyPair (Defined old) Undefined = old ≢ Null
 IsKeyPair (Defined old) (Defined new) = ⊥

@@ -1,4 +1,4 @@
--- What is seen of entries where they stand, as they show themselves in the bytes of a file; this project's own.
+-- What is seen of entries in the bytes of a file; this project's own.
 use Rattle.std.specs.Prelude.{◌≡◌, ℕ, zero, suc, List, [], ◌∷◌, ◌++◌, length, map, drop, slice_index_or, Option, Some, None, Result, Ok, Err, Bool, true, false}
 use Rattle.cs_value.specs.declared.fault.FieldFault.{FieldFault}
 use Rattle.cs_value.specs.declared.value.OwnedValue.{OwnedValue}
@@ -26,7 +26,7 @@ read_or_undefined (Err fault) = (Undefined, 0)
 abbrev pub front_of : List ℕ → OwnedField × ℕ
 front_of bytes = read_or_undefined (field_at bytes)
 
--- so many fields, one behind the other
+-- so many fields, one after the other
 unfoldable pub fields_in : ℕ → List ℕ → List OwnedField
 fields_in zero bytes = []
 fields_in (suc count) bytes = (front_of bytes).0 ∷ fields_in count (drop (front_of bytes).1 bytes)
@@ -40,7 +40,7 @@ value_in (Defined v) = v
 abbrev pub values_in : ℕ → List ℕ → List OwnedValue
 values_in count bytes = map value_in (fields_in count bytes)
 
--- the change with these records, of which a row has the first alone
+-- the change with these records; a row has only the first
 abbrev pub change_of : Operation → List OwnedField → List OwnedField → Change
 change_of Insert first second = change.Insert (map value_in first)
 change_of Delete first second = change.Delete (map value_in first)
@@ -50,7 +50,7 @@ change_of Update first second = change.Update first second
 abbrev pub change_in : ℕ → Operation → List ℕ → List ℕ → Change
 change_in columns what first second = change_of what (fields_in columns first) (fields_in columns second)
 
--- a record of an update as it is shown: as it stands, or with the fields of the other record outside the key
+-- a record of an update as it is shown: as it is, or with the fields of the other record outside the key
 abbrev pub shown_record : Bool → List ℕ → List OwnedField → List OwnedField → List OwnedField
 shown_record false flags record_is other = record_is
 shown_record true flags record_is other = with_key flags record_is other
@@ -121,7 +121,7 @@ abbrev pub IsNextField : List OwnedField → Option Field → List OwnedField �
 IsNextField before None after = (before ≡ []) × (after ≡ [])
 IsNextField before (Some field) after = (before ≡ field_of field ∷ after) × FieldFits field
 
--- what stands in the columns, after the change: of an update the new record
+-- the fields of the columns, after the change: of an update the new record
 abbrev pub new_record : Change → Option (List OwnedField)
 new_record (change.Insert row) = Some (map Defined row)
 new_record (change.Delete row) = None

@@ -81,7 +81,7 @@ kind_of field.BadText = BadText
 
 -- ---- places
 
--- the text stands in the file from one place to another
+-- the text is in the file from one place to another
 pub record Stands (file : List ℕ) (from : ℕ) (text : List ℕ) (to : ℕ) : Type 0 where
   pub spelled : drop from file ≡ text ++ drop to file
   pub within : to ≤ length file
@@ -92,19 +92,19 @@ pub record HasEntry (file : List ℕ) (at : ℕ) : Type 0 where
   pub no_table : slice_index file at ≢ 0x54
   pub no_patchset : slice_index file at ≢ 0x50
 
--- a table is to begin at this place: behind the file of a changeset, which may be that of no table
+-- a table is to begin at this place: after the file of a changeset, which may be that of no table
 pub record TableStart (file : List ℕ) (at : ℕ) (groups : List GroupData) : Type 0 where
   pub are : IsChangeset groups
   pub stand : Stands file 0 (file_bytes groups) at
 
--- this place is inside a header: behind a changeset's file, 0x54 and a text
+-- this place is inside a header: after a changeset's file, 0x54 and a text
 pub record HeaderPart (file text : List ℕ) (at : ℕ) : Type 0 where
   pub from : ℕ
   pub groups : List GroupData
   pub start : TableStart file from groups
   pub stands : Stands file from (0x54 ∷ text) at
 
--- an entry may begin at this place: behind a changeset's file, the header of another table, and entries of it or none
+-- an entry may begin at this place: after a changeset's file, the header of another table, and entries of it or none
 pub record EntryStart (file : List ℕ) (at : ℕ) (header : HeaderData) (entries : List Entry) : Type 0 where
   pub from : ℕ
   pub groups : List GroupData
@@ -120,7 +120,7 @@ abbrev pub change_front : Change → Bool → ℕ → List ℕ
 change_front change indirect count =
     operation change ∷ (if indirect then 1 else 0) ∷ record_bytes (take count (fields_of change))
 
--- a field is to begin at this place: behind an operation, an indirect flag and so many fields of a change, which has
+-- a field is to begin at this place: after an operation, an indirect flag and so many fields of a change, which has
 -- more of them
 pub record FieldStart (file : List ℕ) (at : ℕ) (flags : List ℕ) (change : Change) (count : ℕ) : Type 0 where
   pub from : ℕ
@@ -133,7 +133,7 @@ pub record FieldStart (file : List ℕ) (at : ℕ) (flags : List ℕ) (change : 
   pub indirect : Bool
   pub stand : Stands file from (change_front change indirect count) at
 
--- ---- what is met in a header
+-- ---- faults in a header
 
 abbrev pub IsColumnCount : ℕ → Type 0
 IsColumnCount count = (0 < count) × (count ≤ 32767)
@@ -144,7 +144,7 @@ pub record HasPatchset (file : List ℕ) (place : ℕ) : Type 0 where
   pub start : TableStart file place groups
   pub byte : slice_get file place ≡ Some 0x50
 
--- behind 0x54 stands no varint, and the place is that of its fault
+-- after 0x54 there is no varint, and the place is that of its fault
 pub record HasNoCount (file : List ℕ) (kind : FieldFaultKind) (place : ℕ) : Type 0 where
   pub at : ℕ
   pub behind : ℕ
@@ -152,7 +152,7 @@ pub record HasNoCount (file : List ℕ) (kind : FieldFaultKind) (place : ℕ) : 
   pub fails : VarintFails (drop at file) kind behind
   pub place_is : place ≡ at + behind
 
--- behind 0x54 stands the varint of no column, or of too many
+-- after 0x54 there is the varint of no column, or of too many
 pub record HasBadCount (file : List ℕ) (place : ℕ) : Type 0 where
   pub count : ℕ
   pub to : ℕ
@@ -161,7 +161,7 @@ pub record HasBadCount (file : List ℕ) (place : ℕ) : Type 0 where
   pub is_number : count ≤ MAX_CONTENT_LEN
   pub no_column_count : IsColumnCount count → ⊥
 
--- behind the count of columns stand fewer flags
+-- after the count of columns there are fewer flags
 pub record IsCutFlags (file : List ℕ) : Type 0 where
   pub count : ℕ
   pub at : ℕ
@@ -169,7 +169,7 @@ pub record IsCutFlags (file : List ℕ) : Type 0 where
   pub is_count : IsColumnCount count
   pub fewer : length file < at + count
 
--- behind the count of columns stand as many flags, and each is 0
+-- after the count of columns there are as many flags, and each is 0
 pub record HasNoKey (file : List ℕ) (place : ℕ) : Type 0 where
   pub flags : List ℕ
   pub to : ℕ
@@ -178,7 +178,7 @@ pub record HasNoKey (file : List ℕ) (place : ℕ) : Type 0 where
   pub stand : Stands file place flags to
   pub all_zero : AllByRecursion (λ flag. flag ≡ 0) flags
 
--- behind the flags stands no zero byte
+-- after the flags there is no zero byte
 pub record IsCutName (file : List ℕ) : Type 0 where
   pub flags : List ℕ
   pub at : ℕ
@@ -186,7 +186,7 @@ pub record IsCutName (file : List ℕ) : Type 0 where
   pub part : HeaderPart file (flags_bytes flags) at
   pub no_end : AllByRecursion (λ b. b ≢ 0) (drop at file)
 
--- behind the flags stands a name that is empty or not UTF-8
+-- after the flags there is a name that is empty or not UTF-8
 pub record HasBadName (file : List ℕ) (place : ℕ) : Type 0 where
   pub flags : List ℕ
   pub name : List ℕ
@@ -207,12 +207,12 @@ pub record RepeatsTable (file : List ℕ) (place : ℕ) : Type 0 where
   pub stands : Stands file place (header_bytes header) to
   pub not_new : IsNewName groups header.name → ⊥
 
--- ---- what is met where an entry may begin
+-- ---- faults where an entry may begin
 
 abbrev pub IsOperation : ℕ → Type 0
 IsOperation byte = (byte ≡ 0x12) ⊎ (byte ≡ 0x09) ⊎ (byte ≡ 0x17)
 
--- behind a header stands no entry: the file ends, or another table or a patchset begins
+-- after a header there is no entry: the file ends, or another table or a patchset begins
 pub record HasNoEntry (file : List ℕ) (place : ℕ) : Type 0 where
   pub header : HeaderData
   pub start : EntryStart file place header []
@@ -226,7 +226,7 @@ pub record HasBadOperation (file : List ℕ) (place : ℕ) : Type 0 where
   pub entry : HasEntry file place
   pub no_operation : IsOperation (slice_index file place) → ⊥
 
--- the file ends behind an operation
+-- the file ends after an operation
 pub record IsCutEntry (file : List ℕ) : Type 0 where
   pub at : ℕ
   pub header : HeaderData
@@ -236,7 +236,7 @@ pub record IsCutEntry (file : List ℕ) : Type 0 where
   pub is_operation : IsOperation byte
   pub stands : Stands file at (byte ∷ []) (length file)
 
--- behind an operation stands a byte above 1
+-- after an operation there is a byte above 1
 pub record HasBadFlag (file : List ℕ) (place : ℕ) : Type 0 where
   pub at : ℕ
   pub header : HeaderData
@@ -259,9 +259,9 @@ pub record RepeatsKey (file : List ℕ) (place : ℕ) : Type 0 where
   pub stands : Stands file place (entry_bytes entry) to
   pub not_new : IsNewKey header.flags entries (key_of header.flags entry.change) → ⊥
 
--- ---- what is met where a field is to begin
+-- ---- faults where a field is to begin
 
--- where a field is to begin stands none, and the place is that of its fault
+-- where a field is to begin there is none, and the place is that of its fault
 pub record HasNoField (file : List ℕ) (kind : FieldFaultKind) (place : ℕ) : Type 0 where
   pub at : ℕ
   pub behind : ℕ
@@ -282,7 +282,7 @@ IsWhole (Update old new) = ⊥
 abbrev pub IsKeyColumn : List ℕ → ℕ → Type 0
 IsKeyColumn flags column = 0 < slice_index flags column
 
--- this field stands in a row or in an old record, in a column of which Holds is said
+-- this field is in a row or in an old record, in a column for which Holds holds
 pub record StandsBefore (file : List ℕ) (place : ℕ) (found : OwnedField) (Holds : List ℕ → Change → ℕ → Type 0)
     : Type 0 where
   pub flags : List ℕ
@@ -301,7 +301,7 @@ IsAlike (Defined v) (Defined w) = Unit {0}
 IsAlike Undefined (Defined w) = ⊥
 IsAlike (Defined v) Undefined = ⊥
 
--- in a new record stands a field that is defined where none is wanted, or the reverse
+-- in a new record there is a field that is defined where none is wanted, or the reverse
 pub record StandsUnpaired (file : List ℕ) (place : ℕ) : Type 0 where
   pub flags : List ℕ
   pub change : Change

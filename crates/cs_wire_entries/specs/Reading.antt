@@ -98,19 +98,19 @@ Meets (want ∷ wants) (f ∷ fields) = (refusal want f ≡ None) × Meets wants
 Meets [] (f ∷ fields) = ⊥
 Meets (want ∷ wants) [] = ⊥
 
--- a field that is wanted stands here
+-- a field that is wanted is here
 pub record IsFieldAt (want : Want) (file : List ℕ) (at : ℕ) (f : OwnedField) (end : ℕ) : Type 0 where
   pub is_field : IsField f
   pub wanted : refusal want f ≡ None
   pub stands : Stands file at (field_bytes f) end
 
--- a record that is wanted stands here
+-- a record that is wanted is here
 pub record IsRecordAt (wants : List Want) (file : List ℕ) (at : ℕ) (fields : List OwnedField) (end : ℕ) : Type 0 where
   pub is_record : IsRecord fields
   pub wanted : Meets wants fields
   pub stands : Stands file at (record_bytes fields) end
 
--- no varint stands here
+-- no varint is here
 pub record CountFails (file : List ℕ) (at : ℕ) (kind : ReadFaultKind) (place : ℕ) : Type 0 where
   pub why : FieldFaultKind
   pub behind : ℕ
@@ -118,7 +118,7 @@ pub record CountFails (file : List ℕ) (at : ℕ) (kind : ReadFaultKind) (place
   pub kind_is : kind ≡ kind_of why
   pub place_is : place ≡ at + behind
 
--- no field stands here
+-- no field is here
 pub record NoField (file : List ℕ) (at : ℕ) (kind : ReadFaultKind) (place : ℕ) : Type 0 where
   pub why : FieldFaultKind
   pub behind : ℕ
@@ -126,7 +126,7 @@ pub record NoField (file : List ℕ) (at : ℕ) (kind : ReadFaultKind) (place : 
   pub kind_is : kind ≡ kind_of why
   pub place_is : place ≡ at + behind
 
--- a field stands here that is not wanted
+-- a field is here that is not wanted
 pub record OtherField (want : Want) (file : List ℕ) (at : ℕ) (kind : ReadFaultKind) (place : ℕ) : Type 0 where
   pub field : OwnedField
   pub end : ℕ
@@ -160,13 +160,13 @@ pub record ChangeRefused (byte : ℕ) (flags file : List ℕ) (at : ℕ) (kind :
   pub stands : Stands file at (record_bytes (take count (fields_of change))) end
   pub why : FieldRefused (slice_index_or (wants_of flags change) count AnyField) file end kind place
 
--- no operation stands here
+-- no operation is here
 pub record NoOperation (file : List ℕ) (at : ℕ) (kind : ReadFaultKind) (place : ℕ) : Type 0 where
   pub none : IsOperation (slice_index file at) → ⊥
   pub kind_is : kind ≡ BadOp
   pub place_is : place ≡ at
 
--- no indirect flag stands here
+-- no indirect flag is here
 abbrev pub NoFlag : List ℕ → ℕ → ReadFaultKind → ℕ → Type 0
 NoFlag file at kind place = ((kind ≡ BadFlag) × (at < length file) × (1 < slice_index file at) × (place ≡ at))
     ⊎ ((kind ≡ Truncated) × (at ≡ length file) × (place ≡ length file))

@@ -16,7 +16,7 @@ use Rattle.cs_wire_entries.specs.declared.spelled.KeyColumns.{KeyColumns}
 use Rattle.cs_wire_entries.specs.Entry.{IsEntry, key_of, with_key}
 use Rattle.cs_wire_entries.specs.Items.{FlaggedEntry, fields_in, first_record, shown, shown_entry}
 
--- the fields of a record, of which there are so many
+-- the fields of a record, this many
 abbrev pub fields_at : ℕ → RecordRef → List OwnedField
 fields_at count (Spelled bytes) = fields_in count bytes.now
 fields_at count (Values values) = map Defined values.now
@@ -32,7 +32,7 @@ IsSpelledBy (Spelled bytes) fields = bytes.now ≡ record_bytes fields
 IsSpelledBy (Values values) fields = Unit {0}
 IsSpelledBy (Fields owned) fields = Unit {0}
 
--- a record of so many fields, and no byte behind them
+-- a record of so many fields, and no byte after them
 pub record IsWhole (count : ℕ) (r : RecordRef) : Type 0 where
   pub width : HasWidth count r
   pub is_record : IsRecord (fields_at count r)

@@ -29,7 +29,7 @@ pub record IsIndex (indices : ByBytes ℕ) (texts : List (List ℕ)) : Type 0 wh
   pub found : (text : List ℕ) (index : ℕ) → get indices text ≡ Some index → slice_get texts index ≡ Some text
   pub absent : (text : List ℕ) → get indices text ≡ None → All (λ t. t ≢ text) texts
 
--- what stands at this index of the list has P
+-- the element at this index of the list has P
 pub record IsIndexWhere {X : Type 0} (P : X → Type 0) (xs : List X) (index : ℕ) : Type 0 where
   pub within : index < length xs
   pub holds : HoldsAt P xs index

@@ -201,8 +201,8 @@ fn undoes_what_a_refused_edit_follows(rt: HostRuntime) {
     end(store);
 }
 
-/// Tells what an apply reports behind an edit, and gives the table its rows back. The rows of other tables
-/// stay as the edit and the file left them. Where a call is refused, what was done before it stands.
+/// Returns what an apply reports after an edit, and restores the rows of the table. The rows of other tables
+/// stay as the edit and the file left them. If a call is refused, what was done before it remains.
 fn rehearse<S: Alter>(
     alloc: Global,
     store: &mut Store<S>,

@@ -6,7 +6,7 @@
 //! `calling` the callers that `CALLING.md` of `cs_store`, `cs_apply` and `cs_session` shows, and `command_line` command
 //! lines over files in memory.
 //!
-//! The table t of these tests has the columns a and b, of which a is the key.
+//! The table t of these tests has the columns a and b, with the key a.
 #![tactic(auto)]
 
 #[cfg(test)]

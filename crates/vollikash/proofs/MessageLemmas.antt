@@ -2,7 +2,7 @@
 use Rattle.std.proofs.Common.{◌≡◌, ℕ, ◌+◌, ◌<◌, List, [], ◌∷◌, ◌++◌, length, drop, get_or, slice_set, refl, sym, ap, ◌∙◌, append_assoc}
 use Rattle.std.proofs.lemmas.List.{drop_more}
 
--- the first element behind some is set
+-- the first element after some is set
 set_behind : (front behind : List ℕ) (x v : ℕ) → slice_set (front ++ x ∷ behind) (length front) v ≡ front ++ v ∷ behind
 set_behind [] behind x v = refl
 set_behind (y ∷ front) behind x v = ap (λ (l : List ℕ). y ∷ l) (set_behind front behind x v)

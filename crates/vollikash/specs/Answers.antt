@@ -40,7 +40,7 @@ abbrev pub report_of : OrNoMemory FileFault → FaultReport
 report_of refusal =
     record { code = pos (of_refusal code_of 60 refusal); file = file_of refusal; place = place_of refusal }
 
--- bytes of which Made holds stand at the front of the buffer, and behind them what stood there
+-- bytes for which Made holds are first in the buffer, and after them what was there
 pub record Gives (Made : List ℕ → Type 0) (before after : List ℕ) (written : ℕ) : Type 0 where
   pub bytes : List ℕ
   pub made : Made bytes
@@ -48,7 +48,7 @@ pub record Gives (Made : List ℕ → Type 0) (before after : List ℕ) (written
   pub stand : after ≡ bytes ++ drop (length bytes) before
   pub counted : written ≡ length bytes
 
--- bytes of which Made holds are more than the buffer has room for
+-- bytes for which Made holds are more than the buffer has room for
 pub record Lacks (Made : List ℕ → Type 0) (before : List ℕ) (needed : ℕ) : Type 0 where
   pub bytes : List ℕ
   pub made : Made bytes

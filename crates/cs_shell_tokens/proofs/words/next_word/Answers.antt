@@ -1,4 +1,4 @@
--- `words::next_word`: the word stands in front of the first blank behind the blanks that are skipped.
+-- `words::next_word`: the word comes before the first blank after the blanks that are skipped.
 use Rattle.std.proofs.Common.{◌<◌, length, ap, sym, ◌∙◌, arith, length-append}
 use Rattle.cs_shell_tokens.specs.Words.{words_of, behind_word}
 use Rattle.cs_shell_tokens.proofs.WordLemmas.{words_of-nil, words_of-append, behind_word-append, word_nonempty, nonempty_tested, empty_tested}

@@ -1,4 +1,4 @@
--- `spelled::KeyColumns::of`: what it ensures of columns that stand side by side.
+-- `spelled::KeyColumns::of`: what it ensures of columns that are next to each other.
 use Rattle.std.proofs.Common.{List, ℕ, false, drop, ap, sym, ◌∙◌, arith}
 use Rattle.std.proofs.lemmas.List.{length-drop, take_all}
 use Rattle.cs_value.specs.Spelling.{record_bytes}
