@@ -7,7 +7,7 @@
 //! ```
 //!
 //! `running` applies a file to any rows, and `owned` an owned changeset. `run` is their state between two items.
-//! `judging` decides whether a group fits its table, `entry` carries out an entry, and `ending` says how an entry ends
+//! `judging` decides whether a group fits its table, `entry` carries out an entry, and `halt` says how an entry ends
 //! a run. `conflict` has what a handler is asked and what it chose, `policy` a handler that goes by the kind of the
 //! conflict, `tally` and `report` what a run did, and `fault` why it fails. `cs_apply` does this in a batch of a store.
 #![tactic(auto)]

@@ -1,5 +1,5 @@
 -- What a call of a session in a transaction leaves, by its answer.
-use Rattle.std.proofs.Common.{inl, inr, true, IsTrue, sym, refl, subst}
+use Rattle.std.proofs.Common.{◌≡◌, ℕ, Option, inl, inr, true, IsTrue, sym, refl, subst}
 use Rattle.sqlite.specs.Effect.{Database}
 use Rattle.sqlite.specs.State as store
 use Rattle.sqlite.specs.State.{HasCleanDisk, Shows}
@@ -7,6 +7,8 @@ use Rattle.cs_value.specs.State.{IsState}
 use Rattle.cs_rows.specs.declared.fault.StoreError.{StoreError}
 use Rattle.cs_rows.specs.Faults as stores
 use Rattle.cs_rows.specs.Faults.{refused_for}
+use Rattle.cs_store_records.specs.Failing.{LeadsTo, itself, by_each}
+use Rattle.cs_store.specs.Failing.{IsMade, Writes}
 use Rattle.cs_store.specs.Laws.{was_clean}
 use Rattle.cs_store.specs.Records.{KeepsCrash, KeepsOthers}
 use Rattle.cs_store.specs.Store.{HoldsState, tables_in}
@@ -24,3 +26,8 @@ pub marked_state : (old marked : store.State) → (HasCleanDisk marked → Shows
 marked_state old marked shows starts law clean =
     let shown = shows clean in
     subst (λ (db : Database). IsState (tables_in db)) (sym shown.now_is) (law (was_clean old marked starts clean) shown.was_open).0.stores.is_state
+
+-- without a write the database stays
+pub nothing_made : {limit : Option ℕ} {a b : Database} → LeadsTo (IsMade (Writes (λ held write. ⊥))) limit a b → b ≡ a
+nothing_made itself = refl
+nothing_made (by_each mid new statement tally leads is ends) = absurd is.0.2

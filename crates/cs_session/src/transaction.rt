@@ -32,13 +32,15 @@ use std::alloc::Global;
 
 impl Session {
     /// Carries out an edit in a transaction, as [`Transaction::edit`] does, and notes the keys that it wrote where
-    /// their table is attached.
+    /// their table is attached. Nothing is committed.
     ///
     /// # Errors
     ///
-    /// [`WrongStore`](SessionFault::WrongStore) if the table is attached and the transaction does not show it as it
-    /// was, and then those of [`Transaction::edit`]. A refusal notes nothing. After it the transaction shows what it
-    /// showed before; or the error is `StoreFault`, `NoMemory` or `DamagedStore`, and it has ended.
+    /// `StoreFault` or `NoMemory` if the transaction has ended. Otherwise [`WrongStore`](SessionFault::WrongStore) if
+    /// the table is attached and the transaction does not show it as it was attached, and then those of
+    /// [`Transaction::edit`]. A refusal notes nothing. After it the transaction shows what it showed before. Or the
+    /// error is `StoreFault`, `NoMemory` or `DamagedStore`, the transaction has ended ([`Transaction::has_ended`]), and
+    /// the store is as it was when the transaction began.
     pub fn edit_in_transaction<S: Alter + Drop>(
         &mut self,
         alloc: Global,
@@ -69,13 +71,13 @@ impl Session {
     }
 
     /// Applies the changeset of a file in a transaction, as [`apply_in_transaction`](cs_apply::apply_in_transaction)
-    /// does, and notes the keys that were written where their table is attached.
+    /// does, and notes the keys that were written where their table is attached. Nothing is committed.
     ///
     /// # Errors
     ///
-    /// [`WrongStore`](SessionFault::WrongStore) if the transaction does not show each table as it was attached, and
-    /// then those of `apply_in_transaction`. A refusal leaves what one of
-    /// [`edit_in_transaction`](Session::edit_in_transaction) leaves.
+    /// `StoreFault` or `NoMemory` if the transaction has ended. Otherwise [`WrongStore`](SessionFault::WrongStore) if
+    /// the transaction does not show each table as it was attached, and then those of `apply_in_transaction`. A refusal
+    /// leaves what one of [`edit_in_transaction`](Session::edit_in_transaction) leaves.
     pub fn apply_in_transaction<S: Alter + Drop, H: Fn(&Conflict) -> Choice>(
         &mut self,
         alloc: Global,
@@ -89,6 +91,10 @@ impl Session {
             RecordsApply (FnReturnsAt H.Fn handler.now) noop file.now ForwardRun
             (tables_in (state S.Store transaction.old).now) self.old report
             (tables_in (state S.Store transaction.new).now) self.new) }
+        ensures clean { HasCleanDisk (state S.Store transaction.new) → IfOk result (λ report.
+            report.conflicts.items ≡ [] → report.ignored ≡ 0
+            → Leads file.now (tables_in (state S.Store transaction.old).now)
+            (tables_in (state S.Store transaction.new).now)) }
         ensures rewound { HasCleanDisk (state S.Store transaction.new) → OnOk result
             (rewound self.new (tables_in (state S.Store transaction.new).now)
             ≡ rewound self.old (tables_in (state S.Store transaction.old).now)) }
@@ -106,6 +112,7 @@ impl Session {
             (tables_in (state S.Store transaction.old).now)) IsRowsRefusal
             (state S.Store transaction.old) (state S.Store transaction.new) result }
     {
+        transaction.store_law();
         let direction = Direction::Forward;
         let result = apply_call(
             alloc,
@@ -122,7 +129,7 @@ impl Session {
 
     /// Applies the inverse of the changeset of a file in a transaction, as
     /// [`revert_in_transaction`](cs_apply::revert_in_transaction) does, and notes the keys that were written where
-    /// their table is attached. It aborts at the first conflict.
+    /// their table is attached. It aborts at the first conflict. Nothing is committed.
     ///
     /// # Errors
     ///
@@ -177,9 +184,10 @@ impl Session {
     ///
     /// # Errors
     ///
-    /// [`WrongStore`](SessionFault::WrongStore) if the transaction does not show each table as it was attached, and
-    /// `StoreFault`, `NoMemory` or `DamagedStore` if the database refuses, memory runs out or a row cannot be of its
-    /// table. After a refusal the transaction shows what it showed before, or it has ended.
+    /// `StoreFault` or `NoMemory` if the transaction has ended. Otherwise [`WrongStore`](SessionFault::WrongStore) if
+    /// the transaction does not show each table as it was attached; that does not end it. `StoreFault`, `NoMemory` or
+    /// `DamagedStore` if the database refuses, memory runs out or a row cannot be of its table. After a refusal the
+    /// transaction shows what it showed before, or it has ended.
     pub fn changeset_in_transaction<S: Alter + Drop>(
         &self,
         alloc: Global,
@@ -191,6 +199,8 @@ impl Session {
             → OnOk result (HasTables (tables_in (state S.Store transaction.old).now) self.now) }
         ensures leads { HasCleanDisk (state S.Store transaction.new)
             → IfOk result (LeadsBackTo self.now (tables_in (state S.Store transaction.old).now)) }
+        ensures same { HasCleanDisk (state S.Store transaction.new) → OnOk result ((state S.Store transaction.new).now
+            ≡ (state S.Store transaction.old).now) }
         ensures refused { HasCleanDisk (state S.Store transaction.new)
             → IfErr result (RefusesChanges (tables_in (state S.Store transaction.old).now) self.now) }
         ensures caused { HasCleanDisk (state S.Store transaction.new) → IfErr result (IsCaused (BatchFails

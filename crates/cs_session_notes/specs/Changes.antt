@@ -40,7 +40,8 @@ IsCaused Fails fault = Unit {0}
 abbrev pub IsResource : SessionFault → Type 0
 IsResource fault = (fault ≡ NoMemory) ⊎ IsOfStore IsStoreFault fault
 
--- The refusal is not one of the rows: what was asked is refused.
+-- The refusal is not one of the rows: what was asked is refused. A fault of an apply is one of the changeset here, since
+-- `apply_fault_of` makes a `Store` or a `NoMemory` of the others.
 abbrev pub is_own : SessionFault → Bool
 is_own (Store error) = stores.is_own error
 is_own NoMemory = false

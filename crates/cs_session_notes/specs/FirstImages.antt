@@ -19,7 +19,7 @@ pub record FirstImage : Type 0 where
   pub key : List ℕ
   pub row : Option (List OwnedValue)
 
--- those of a table: what was kept at the last commit, and what was noted since
+-- those of a table: what earlier calls noted, and what the last one noted
 pub record NotedImages : Type 0 where
   pub kept : List FirstImage
   pub pending : List FirstImage

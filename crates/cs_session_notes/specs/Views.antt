@@ -17,7 +17,7 @@ attached_of table = record {
   firsts = table.firsts.kept ++ table.firsts.pending;
 }
 
--- with what was noted at the last commit
+-- with what earlier calls noted
 abbrev pub kept_of : Attached → AttachedTable
 kept_of table = record {
   name = rc_str_bytes table.name;

@@ -58,7 +58,7 @@ pub fn note_write(table: &mut Attached, key: Key, former: Option<Row>) -> Result
     table.firsts.note(key, former)
 }
 
-/// What was noted since the last commit is committed, where it was noted in the tables at these indices.
+/// Keeps what was noted since the last call of the session, in the tables at these indices.
 pub fn keep_at(tables: &mut [Attached], indices: &[usize])
     requires { HaveNonePendingBut indices.now tables.old }
     ensures kept { map attached_of tables.new ≡ map attached_of tables.old }
@@ -69,7 +69,7 @@ pub fn keep_at(tables: &mut [Attached], indices: &[usize])
     }
 }
 
-/// What was noted since the last commit is forgotten, where it was noted in the tables at these indices.
+/// Forgets what was noted since the last call of the session, in the tables at these indices.
 pub fn cut_back_at(tables: &mut [Attached], indices: &[usize])
     requires { HaveNonePendingBut indices.now tables.old }
     ensures kept { map attached_of tables.new ≡ map kept_of tables.old }

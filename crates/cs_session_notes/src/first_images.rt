@@ -10,11 +10,11 @@ use std::alloc::Global;
 use std::marker::Model;
 
 /// The keys of a table that were written, each once, in the order of the first write, and the row that
-/// was under each first, or none. Those after the last commit can be cut off.
+/// was under each first, or none. Those of the last call can be cut off.
 #[derive(Debug, Drop)]
 pub struct FirstImages {
     firsts: IndexMap<Key, Option<Row>>,
-    // How many there were at the last commit.
+    // How many there were before the last call.
     kept: usize,
 }
 
@@ -47,7 +47,7 @@ impl FirstImages {
         }
     }
 
-    /// The keys, each with its row, and with those after the last commit.
+    /// The keys, each with its row, and with those of the last call.
     pub fn iter(&self) -> Iter<'_, Key, Option<Row>>
         ensures { map first_of result ≡ self.now.kept ++ self.now.pending }
     {
@@ -80,14 +80,14 @@ impl FirstImages {
         Ok(())
     }
 
-    /// The keys that were noted since the last commit are committed.
+    /// Keeps the keys that the last call noted.
     pub fn keep(&mut self)
         ensures { self.new ≡ record { kept = self.old.kept ++ self.old.pending; pending = [] } }
     {
         self.kept = self.firsts.len();
     }
 
-    /// The keys that were noted since the last commit are forgotten.
+    /// Forgets the keys that the last call noted.
     pub fn cut_back(&mut self)
         ensures { self.new ≡ record { kept = self.old.kept; pending = [] } }
     {

@@ -25,7 +25,7 @@ pub struct AttachedTables {
     tables: Vec<Attached>,
     // The name of each, at its index.
     names: IndexSet<RcStr>,
-    // The indices of those in which something may be noted since the last commit.
+    // The indices of those in which the last call may have noted something.
     noted: Vec<usize>,
 }
 
@@ -96,7 +96,7 @@ impl AttachedTables {
     /// # Errors
     ///
     /// `NoMemory` if out of memory, and [`DamagedStore`](cs_rows::StoreError::DamagedStore) for a former row that
-    /// does not fit its table. What was noted at the last commit stays.
+    /// does not fit its table. What earlier calls noted stays.
     pub fn note_all(&mut self, alloc: Global, written: &[Written]) -> Result<(), SessionFault>
         requires { AreApart (map attached_of self.old) }
         ensures noted { OnOk result (map attached_of self.new
@@ -150,7 +150,7 @@ impl AttachedTables {
         note_write(&mut self.tables[index], one.key, one.former)
     }
 
-    /// Keeps what was noted since the last call if `accepted` is true, and forgets it otherwise.
+    /// Ends a call: keeps what was noted since the call before if `accepted` is true, and forgets it otherwise.
     pub fn settle(&mut self, accepted: bool)
         ensures settled { map attached_of self.new
             ≡ (if accepted then map attached_of self.old else map kept_of self.old) }
@@ -163,7 +163,7 @@ impl AttachedTables {
         }
     }
 
-    /// Keeps what was noted since the last call.
+    /// Keeps what the last call noted.
     fn keep(&mut self)
         ensures kept { map attached_of self.new ≡ map attached_of self.old }
         ensures none_pending { AllByRecursion HasNonePending self.new }
@@ -172,7 +172,7 @@ impl AttachedTables {
         self.noted.clear();
     }
 
-    /// Forgets what was noted since the last call.
+    /// Forgets what the last call noted.
     fn cut_back(&mut self)
         ensures kept { map attached_of self.new ≡ map kept_of self.old }
         ensures none_pending { AllByRecursion HasNonePending self.new }

@@ -2,6 +2,7 @@
 
 use crate::rows::{Call, edit_of, end, names, rows_of, store_of};
 use crate::{INSERT, UPDATE};
+use cs_apply::{Choice, Noop};
 use cs_session::{Session, SessionFault};
 use cs_store::Store;
 use cs_value::{Fault, Value};
@@ -228,4 +229,25 @@ fn names_refusals_of_sessions(rt: HostRuntime) {
     let (twice, wrong) = (SessionFault::AlreadyAttached, SessionFault::WrongStore);
     assert!(rt; twice.class() == 1 && twice.name() == "AlreadyAttached");
     assert!(rt; wrong.class() == 1 && wrong.name() == "WrongStore");
+}
+
+#[test]
+fn undoes_what_a_transaction_applied(rt: HostRuntime) {
+    let (mut store, mut session) = (store_of(&rt, &[false, false]), Session::new(rt.alloc()));
+    let attached = session.attach(rt.alloc(), &mut store, "t");
+    attached.expect(&rt, "a table");
+    let Ok(mut transaction) = store.into_transaction() else {
+        panic!(rt; "refused");
+    };
+    let (rows, noop) = (&mut transaction, Noop::Report);
+    let applied = session.apply_in_transaction(rt.alloc(), rows, INSERT, noop, &|_| Choice::Abort);
+    assert!(rt; applied.expect(&rt, "no refusal").written.len() == 1);
+    let Ok(mut store) = transaction.commit() else {
+        panic!(rt; "refused");
+    };
+    let reverted = session.revert(rt.alloc(), &mut store, INSERT);
+    assert!(rt; reverted.expect(&rt, "no refusal").written.len() == 1);
+    let undone = session.undo(rt.alloc(), &mut store);
+    assert!(rt; undone.expect(&rt, "no refusal").written.is_empty());
+    end(store);
 }

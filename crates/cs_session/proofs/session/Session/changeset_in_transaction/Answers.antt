@@ -1,6 +1,6 @@
--- `session::Session::changeset_in_transaction`: the clauses `made`, `attached`, `leads`, `refused`, `within` and
+-- `session::Session::changeset_in_transaction`: the clauses `made`, `attached`, `leads`, `same`, `refused`, `within` and
 -- `caused`.
-use Rattle.std.proofs.Common.{◌≡◌, Bool, true, inl, IfErr, IsTrue, map, subst}
+use Rattle.std.proofs.Common.{◌≡◌, Bool, true, inl, IfErr, IsTrue, map, subst, ◌∙◌}
 use Rattle.std.proofs.lemmas.Result.{err_from_is_err_and}
 use Rattle.sqlite.specs.Effect.{Database}
 use Rattle.sqlite.specs.Held.{state}
@@ -9,12 +9,12 @@ use Rattle.cs_value.specs.State.{State}
 use Rattle.cs_store.specs.Laws.{was_clean}
 use Rattle.cs_store.specs.Store.{tables_in}
 use Rattle.cs_store.specs.Within.{EndsCall}
-use Rattle.cs_store.proofs.WithinLemmas.{call_within, ended_within, leaves_inside, marked_fails, release_fails, unreleased_within}
+use Rattle.cs_store.proofs.WithinLemmas.{call_within, ended_within, leaves_inside, mark_there, marked_fails, release_fails, shown_on, unreleased_within}
 use Rattle.cs_session_notes.specs.Changes.{IsRowsRefusal, RefusesChanges, is_answered}
 use Rattle.cs_session_notes.specs.Views.{attached_of}
 use Rattle.cs_session_notes.proofs.CauseLemmas.{answered_goes_on, answered_inside, caused_so, rows_caused_on}
 use Rattle.cs_session.proofs.OutcomeLemmas.{read_attached, read_leads, read_made}
-use Rattle.cs_session.proofs.TransactionLemmas.{marked_state, resource_refusal}
+use Rattle.cs_session.proofs.TransactionLemmas.{marked_state, nothing_made, resource_refusal}
 use Rattle.cs_session.proofs.session.Session.changeset_in_transaction.Goals as goal
 
 abbrev Left : State → State → Type 0
@@ -76,6 +76,20 @@ returns-clause-leads g c clean =
     rw (← c.self.view_is, ← c.as_slice.ensures)
     (read_leads c.net_changeset-result.result marked.now old.now shown.now_is is_state (map attached_of c.as_slice.result.now) notes (c.net_changeset-result.ensures.attached before)
     (c.net_changeset-result.ensures.made before))
+
+pub returns-clause-same : goal.returns-clause-same
+returns-clause-same g c clean =
+    let old = state g.S.Store c.args.transaction.now in
+    let marked = state g.S.Store c.mark.new.self in
+    let mid = state g.S.Store c.net_changeset-result.new.rows in
+    let new = state g.S.Store c.end_call.new.self in
+    let r = c.net_changeset-result.result in
+    let keeps = c.net_changeset-result.ensures.kept in
+    let before = was_clean mid new c.end_call.ensures.survives clean in
+    let shown = (c.in_ok-mark.ensures.marked (was_clean marked mid keeps.0.crash before)).1 in
+    shown_on r (λ (db : Database). db ≡ old.now) old.marks old.now mid new (answered_inside r (IsTrue mid.in_transaction) (λ answered. (keeps.1 answered before).inside shown.mode))
+    (subst (λ (b : Bool). EndsCall b old.marks old.now mid new) c.is_ok.ensures.value (c.in_ok-end_call.ensures.ends old.marks old.now (mark_there old marked mid c.in_ok-mark.ensures.marked c.mark.ensures.survives keeps.0 before) clean))
+    (answered_inside r (mid.now ≡ old.now) (λ answered. nothing_made (keeps.1 answered before).leads ∙ shown.now_is))
 
 pub returns-clause-refused : goal.returns-clause-refused
 returns-clause-refused g c clean =
