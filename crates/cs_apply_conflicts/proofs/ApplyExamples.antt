@@ -157,8 +157,8 @@ null_insert_meets :
     × (leaves_all (Insert null_row) (Some row) replace_row ≡ Some (Some row))
 null_insert_meets = (refl, refl, refl, refl, refl, refl, refl, refl)
 
--- an update of 'x' to NULL breaks the rule at (1, 'x'), and at (1, 'z') in place of the other value; where no row
--- stands it finds none, and that alone
+-- an update of 'x' to NULL breaks the rule at (1, 'x'), and at (1, 'z') in place of the other value; without a row it
+-- only finds none
 null_update_meets :
     (meets_all (update x Null) (Some row) (always Replace) ≡ Constraint ∷ [])
     × (meets_all (update x Null) (Some apart) (always Omit) ≡ Data ∷ [])
