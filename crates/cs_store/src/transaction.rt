@@ -399,8 +399,8 @@ impl<S: Alter + Drop> Transaction<S> {
     /// # Errors
     ///
     /// `BadSchema` if the name or the columns make no table, and then `TableExists`. `DamagedStore` and `NoMemory` as
-    /// for [`tables`](Transaction::tables). `StoreFault` or `NoMemory` if the transaction has ended, and `StoreFault` if
-    /// the database refuses. A refusal leaves what one of [`edit`](Transaction::edit) leaves.
+    /// for [`tables`](Transaction::tables). `StoreFault` or `NoMemory` if the transaction has ended, and `StoreFault`
+    /// if the database refuses. A refusal leaves what one of [`edit`](Transaction::edit) leaves.
     pub fn declare(
         &mut self,
         alloc: Global,
@@ -462,8 +462,8 @@ impl<S: Alter + Drop> Transaction<S> {
     /// # Errors
     ///
     /// Those of [`edit_in`], and `StoreFault` or `NoMemory` if the transaction has ended. After a refusal the
-    /// transaction shows what it showed before. Or the error is `StoreFault`, `NoMemory` or `DamagedStore`, the transaction has
-    /// [ended](Transaction::has_ended), and the store is as it was when the transaction began.
+    /// transaction shows what it showed before. Or the error is `StoreFault`, `NoMemory` or `DamagedStore`, the
+    /// transaction has [ended](Transaction::has_ended), and the store is as it was when the transaction began.
     pub fn edit(&mut self, alloc: Global, edit: &Edit) -> Result<Vec<Written>, StoreError>
         ensures edited { HasCleanDisk (state S.Store self.new)
             → IfOk result (λ w. edited (tables_in (state S.Store self.old).now) edit.now

@@ -138,7 +138,8 @@ fn toggles_a_row(rt: HostRuntime) {
     }
 }
 
-/// Carries out edits in a transaction, and returns the file of what it changed in the attached tables.
+/// Carries out edits in a transaction, and returns the file of the net changeset of the attached
+/// tables.
 fn record<S: Alter + Drop>(
     alloc: Global,
     transaction: &mut Transaction<S>,
@@ -201,8 +202,9 @@ fn undoes_what_a_refused_edit_follows(rt: HostRuntime) {
     end(store);
 }
 
-/// Returns what an apply reports after an edit, and restores the rows of the table. The rows of other tables
-/// stay as the edit and the file left them. If a call is refused, what was done before it remains.
+/// Returns what an apply reports after an edit, and restores the rows of the table. The rows of other
+/// tables stay as the edit and the file left them. If a call is refused, what was done before it
+/// remains.
 fn rehearse<S: Alter>(
     alloc: Global,
     store: &mut Store<S>,
