@@ -75,33 +75,62 @@ pub(crate) fn add_entry(alloc: Global) -> Result<usize, ReadError> {
     Ok(count)
 }
 
+/// A row of one number.
+fn row_of(alloc: Global, number: i64) -> Result<Row, NoMemory> {
+    let mut values = Vec::new(alloc);
+    values.push(OwnedValue::Int(number))?;
+    Ok(Row::new(values))
+}
+
 /// The INSERT of a row of one number.
 fn insertion(alloc: Global, number: i64) -> Result<Entry, NoMemory> {
     Ok(Entry {
         indirect: false,
-        change: Change::Insert(Row::new(vec![in alloc; OwnedValue::Int(number)]?)),
+        change: Change::Insert(row_of(alloc, number)?),
+    })
+}
+
+/// The DELETE of a row of one number.
+fn deletion(alloc: Global, number: i64) -> Result<Entry, NoMemory> {
+    Ok(Entry {
+        indirect: false,
+        change: Change::Delete(row_of(alloc, number)?),
     })
 }
 
 /// Makes a group of two entries, and returns how many it has.
 pub(crate) fn make_group(alloc: Global) -> Result<usize, NoMemory> {
+    match first_group(alloc)? {
+        Some(mut group) => {
+            add_second(alloc, &mut group)?;
+            Ok(group.entries().len())
+        }
+        None => Ok(0),
+    }
+}
+
+/// Makes a group of an INSERT of 1.
+fn first_group(alloc: Global) -> Result<Option<Group>, NoMemory> {
     let flags = [1];
     if !Header::fits("t", &flags) {
-        return Ok(0);
+        return Ok(None);
     }
-    let header = Header::new(
-        String::from_str(alloc, "t")?,
-        Vec::from_slice(alloc, &flags)?,
-    );
-    let (first, second) = (insertion(alloc, 1)?, insertion(alloc, 2)?);
-    if !header.admits(&first) || !header.admits(&second) {
-        return Ok(0);
+    let name = String::from_str(alloc, "t")?;
+    let header = Header::new(name, Vec::from_slice(alloc, &flags)?);
+    let first = insertion(alloc, 1)?;
+    if !header.admits(&first) {
+        return Ok(None);
     }
-    let mut group = Group::new(alloc, header, first)?;
-    if group.find(&group.key_of(alloc, &second)?).is_none() {
+    Ok(Some(Group::new(alloc, header, first)?))
+}
+
+/// Adds the INSERT of 2 to a group that it fits.
+fn add_second(alloc: Global, group: &mut Group) -> Result<(), NoMemory> {
+    let second = insertion(alloc, 2)?;
+    if group.header().admits(&second) && group.find(&group.key_of(alloc, &second)?).is_none() {
         group.push(second)?;
     }
-    Ok(group.entries().len())
+    Ok(())
 }
 
 /// Inverts a changeset, and returns how many bytes the inverse is written with.
@@ -128,15 +157,7 @@ pub(crate) fn join_read(alloc: Global) -> Result<usize, ReadError> {
 
 /// Merges the INSERT of a row and its DELETE, and returns whether nothing is left.
 pub(crate) fn merge_two(alloc: Global) -> Result<usize, NoMemory> {
-    let row = Row::new(vec![in alloc; OwnedValue::Int(1)]?);
-    let first = Entry {
-        indirect: false,
-        change: Change::Insert(row.copy(alloc)?),
-    };
-    let second = Entry {
-        indirect: false,
-        change: Change::Delete(row),
-    };
+    let (first, second) = (insertion(alloc, 1)?, deletion(alloc, 1)?);
     match merge(alloc, &[1], &first, &second)? {
         Merged::Vanish => Ok(1),
         _ => Ok(0),

@@ -18,19 +18,25 @@ pub(crate) struct TestRows {
 
 /// A row of two integers.
 fn row_of(alloc: Global, first: i64, second: i64) -> Result<Row, NoMemory> {
-    Ok(Row::new(vec![in alloc; OwnedValue::Int(first), OwnedValue::Int(second)]?))
+    let mut values = Vec::new(alloc);
+    values.push(OwnedValue::Int(first))?;
+    values.push(OwnedValue::Int(second))?;
+    Ok(Row::new(values))
 }
 
 /// The key of one integer.
 fn key_of(alloc: Global, number: i64) -> Result<Key, NoMemory> {
-    let values = vec![in alloc; OwnedValue::Int(number)]?;
+    let mut values = Vec::new(alloc);
+    values.push(OwnedValue::Int(number))?;
     Key::from_values(alloc, &values)
 }
 
 /// Two names of columns.
 fn column_names(alloc: Global) -> Result<Vec<String>, NoMemory> {
-    let (first, second) = (String::from_str(alloc, "a")?, String::from_str(alloc, "b")?);
-    Ok(vec![in alloc; first, second]?)
+    let mut names = Vec::new(alloc);
+    names.push(String::from_str(alloc, "a")?)?;
+    names.push(String::from_str(alloc, "b")?)?;
+    Ok(names)
 }
 
 impl TestRows {

@@ -5,7 +5,10 @@ use std::alloc::Global;
 
 /// Copies a row, and its key, and returns how many bytes both are spelled with.
 pub(crate) fn copy_row(alloc: Global) -> Result<usize, NoMemory> {
-    let row = Row::new(vec![in alloc; OwnedValue::Int(1), OwnedValue::Null]?);
+    let mut values = Vec::new(alloc);
+    values.push(OwnedValue::Int(1))?;
+    values.push(OwnedValue::Null)?;
+    let row = Row::new(values);
     let copy = row.copy(alloc)?;
     let key = Key::of_row(alloc, &[1, 0], &copy)?.copy(alloc)?;
     let mut out = Vec::new(alloc);

@@ -27,10 +27,12 @@ use Rattle.cs_apply_rows.specs.declared.report.Report.{Report}
 use Rattle.cs_apply_rows.specs.Running.{Handler}
 use Rattle.cs_session_notes.specs.FirstImages.{FirstImage, AttachedTable, Notes, HasAttached, first_at, put_all_back, rewound_rows, rewound, rewound_state, noted_in, recorded}
 use Rattle.cs_session_notes.specs.Attaching.{Attaches}
+use Rattle.cs_session_notes.specs.Merging.{all_noted}
 use Rattle.cs_session.specs.Recording.{Records, RecordsApply, table_of}
 use Rattle.cs_session.specs.Undoing.{Undoes}
-use Rattle.cs_session.specs.Runs.{Moment, IsMoment, DeclaresTable, AttachesTable, EditsRow, AppliesChangeset, UndoesAll, Refused, Step, Run, ending, rows_attached, all_attached, RowsFromBefore}
+use Rattle.cs_session.specs.Runs.{Moment, IsMoment, DeclaresTable, AttachesTable, EditsRow, AppliesChangeset, UndoesAll, MergesNotes, Refused, Step, Run, ending, rows_attached, all_attached, RowsFromBefore}
 use Rattle.cs_session_notes.proofs.FirstLemmas.{put_all_at, rewound_recorded}
+use Rattle.cs_session_notes.proofs.MergeLemmas.{merge_restores}
 use Rattle.cs_session.proofs.RewoundLemmas.{other_name, rewound_schemas, IsRewound, rewound_here, all_rewound}
 use Rattle.cs_session_notes.proofs.NotesLemmas.{names_stay}
 use Rattle.cs_session.proofs.EditLemmas.{Tells, IfDone, edited_tells}
@@ -74,6 +76,18 @@ edits_keep m n is step =
     let done : Edited = record { state = n.state; written = step.recorded.written } in
     let tells : Tells m.state (table_of step.edit) done = subst (IfDone m.state (table_of step.edit)) step.recorded.edited (edited_tells m.state step.edit) in
     writes_keep m n is step.recorded.written tells.schemas tells.tells step.recorded.noted
+
+merges_keep : (m n : Moment) → IsMoment m → MergesNotes m n → Keeps m n []
+merges_keep m n is step =
+    let w = all_noted step.during in
+    record {
+      is_moment = rw step.noted (record {
+        has = All-map (HasAttached n.state) (noted_in w) m.notes step.has;
+        apart = AllPairs-from_recursion Apart (recorded m.notes w) (names_stay w m.notes (recursion_from_AllPairs Apart m.notes is.apart));
+      });
+      before = ap (λ (ns : Notes). rewound ns n.state) step.noted ∙ merge_restores m.state n.state step.during m.notes step.once step.covers step.restored
+          ∙ sym (append-nil (rewound m.notes m.state));
+    }
 
 -- ---- a table is attached
 
@@ -160,7 +174,8 @@ step_keeps m n is (inr (inl step)) = declares_keep m n is step
 step_keeps m n is (inr (inr (inl step))) = edits_keep m n is step
 step_keeps m n is (inr (inr (inr (inl step)))) = applies_keep m n is step
 step_keeps m n is (inr (inr (inr (inr (inl step))))) = undoes_keep m n is step
-step_keeps m n is (inr (inr (inr (inr (inr step))))) = refused_keeps m n is step
+step_keeps m n is (inr (inr (inr (inr (inr (inl step)))))) = merges_keep m n is step
+step_keeps m n is (inr (inr (inr (inr (inr (inr step)))))) = refused_keeps m n is step
 
 run_keeps : (m : Moment) (later : List Moment) → IsMoment m → (run : Run m later) → Keeps m (ending m later) (all_attached m later run)
 run_keeps m [] is run = record { is_moment = is; before = sym (append-nil (rewound m.notes m.state)) }
@@ -213,4 +228,4 @@ declared_step name schema m n done notes = inr (inl (record { name = name; schem
 unfoldable pub refused_step : (old new : Connection) (notes after : Notes) → KeepsContent old new → IsTrue new.is_open → after ≡ notes
     → Step (record { state = tables_in old.now; notes = notes }) (record { state = tables_in new.now; notes = after })
 refused_step old new notes after kept is_open same =
-    inr (inr (inr (inr (inr (record { state = ap (λ (db : Database). tables_in db) (kept.now is_open); notes = same })))))
+    inr (inr (inr (inr (inr (inr (record { state = ap (λ (db : Database). tables_in db) (kept.now is_open); notes = same }))))))

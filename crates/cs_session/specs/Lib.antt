@@ -1,10 +1,13 @@
 pub mod Recording
 pub mod Undoing
+pub mod Merged
 pub mod Runs
 pub use Rattle.cs_value.specs.State
 pub use Rattle.cs_wire.specs.Changeset
 pub use Rattle.cs_apply_conflicts.specs.Applying
 pub use Rattle.cs_session_notes.specs.FirstImages
+pub use Rattle.cs_session_notes.specs.Merging
 pub use Rattle.cs_session_notes.specs.Attaching
+pub use Rattle.cs_session_notes.specs.Noting
 pub use Rattle.cs_session_notes.specs.Changes
 pub use Rattle.cs_session_notes.specs.Faults

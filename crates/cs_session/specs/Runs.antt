@@ -1,6 +1,6 @@
 -- Runs of a session on a store: what is done with both, one step after another, as SQLite's session extension and this
 -- project's stores have it.
-use Rattle.std.specs.Prelude.{◌≡◌, ◌≢◌, ◌⊎◌, ℕ, List, [], ◌∷◌, ◌++◌, AllPairs, Ok, map}
+use Rattle.std.specs.Prelude.{◌≡◌, ◌≢◌, ◌⊎◌, ℕ, List, [], ◌∷◌, ◌++◌, All, AllPairs, Ok, map}
 use Rattle.std.proofs.Common.{inl, inr}
 use Rattle.cs_value.specs.State.{SchemaData, RowMap, State, rows_at}
 use Rattle.cs_wire.specs.Changeset.{GroupData}
@@ -11,6 +11,8 @@ use Rattle.cs_apply_conflicts.specs.Applying.{Choices, IsAppliedUnder, written_u
 use Rattle.cs_session_notes.specs.FirstImages.{Notes, rewound, rewound_state, recorded}
 use Rattle.cs_session_notes.specs.Attaching.{Attaches}
 use Rattle.cs_session_notes.specs.Changes.{HasTables}
+use Rattle.cs_session_notes.specs.Merging.{IsAttached, all_noted}
+use Rattle.cs_session_notes.specs.Noting.{AreApart}
 use Rattle.cs_session.specs.Recording.{Records}
 
 -- the tables of the store, and what the session remembers
@@ -56,13 +58,22 @@ pub record UndoesAll (m n : Moment) : Type 0 where
   pub rewound : n.state ≡ rewound_state m.notes m.state
   pub notes : n.notes ≡ m.notes
 
+-- notes are merged that restore the rows from before a transaction, as it is committed
+pub record MergesNotes (m n : Moment) : Type 0 where
+  pub during : Notes
+  pub once : AreApart during
+  pub covers : All (λ t. IsAttached t.name during) m.notes
+  pub restored : rewound during n.state ≡ map (λ t. rows_at m.state t.name) during
+  pub has : HasTables n.state m.notes
+  pub noted : n.notes ≡ recorded m.notes (all_noted during)
+
 -- a call is refused
 pub record Refused (m n : Moment) : Type 0 where
   pub state : n.state ≡ m.state
   pub notes : n.notes ≡ m.notes
 
 abbrev pub Step : Moment → Moment → Type 0
-Step m n = AttachesTable m n ⊎ (DeclaresTable m n ⊎ (EditsRow m n ⊎ (AppliesChangeset m n ⊎ (UndoesAll m n ⊎ Refused m n))))
+Step m n = AttachesTable m n ⊎ (DeclaresTable m n ⊎ (EditsRow m n ⊎ (AppliesChangeset m n ⊎ (UndoesAll m n ⊎ (MergesNotes m n ⊎ Refused m n)))))
 
 -- ---- runs
 

@@ -57,7 +57,7 @@ append_kept (f ∷ firsts) first q row e = at (bytes_eq f.key q) e (append_kept 
     at false e next = next e
 
 -- and where nothing was there it is the new one's
-append_new : (firsts : List FirstImage) (first : FirstImage) (q : List ℕ) → first_at firsts q ≡ None
+pub append_new : (firsts : List FirstImage) (first : FirstImage) (q : List ℕ) → first_at firsts q ≡ None
     → first_at (firsts ++ first ∷ []) q ≡ cond (bytes_eq first.key q) (Some first.row) None
 append_new [] first q e = refl
 append_new (f ∷ firsts) first q e = at (bytes_eq f.key q) e (append_new firsts first q)
@@ -71,7 +71,7 @@ append_new (f ∷ firsts) first q e = at (bytes_eq f.key q) e (append_new firsts
 -- ---- what is noted
 
 -- a key that was there keeps its first image
-noted_kept : (firsts : List FirstImage) (written : List WrittenData) (q : List ℕ) (row : Option (List OwnedValue)) → first_at firsts q ≡ Some row
+pub noted_kept : (firsts : List FirstImage) (written : List WrittenData) (q : List ℕ) (row : Option (List OwnedValue)) → first_at firsts q ≡ Some row
     → first_at (noted firsts written) q ≡ Some row
 noted_kept firsts [] q row e = e
 noted_kept firsts (w ∷ written) q row e =

@@ -1,19 +1,21 @@
 -- The tables of a session by their indices, and what is noted in them, one write after another.
-use Rattle.std.proofs.Common.{bytes_eq, ◌≡◌, ◌≢◌, ◌⊎◌, ◌<◌, ℕ, zero, suc, Bool, true, false, cond, List, [], ◌∷◌, ◌++◌, length, get_or, set, drop, ◌+◌, map, refl, sym, ap, ◌∙◌, subst, arith}
+use Rattle.std.proofs.Common.{bytes_eq, ◌≡◌, ◌≢◌, ◌⊎◌, ◌<◌, ℕ, zero, suc, Bool, true, false, cond, List, [], ◌∷◌, ◌++◌, length, get_or, set, take, drop, ◌+◌, map, refl, sym, ap, ◌∙◌, subst, arith}
 use Rattle.std.specs.Prelude.{IfSome, is_some, Option, Result, Ok, Err, OnOk, IfErr, All}
 use Rattle.std.specs.List.{AllByRecursion}
 use Rattle.std.specs.Rc.{rc_str_bytes}
 use Rattle.std.specs.Cmp.Lexicographic.{bytes_decides, same_text}
-use Rattle.std.proofs.lemmas.List.{append-nil, append_assoc, drop_more, get_or_default, length-map, map-set}
+use Rattle.std.proofs.lemmas.List.{append-nil, append_assoc, drop_more, get_or_default, length-map, map-append, map-set}
 use Rattle.std.proofs.Math.Seq.{map-set_same}
-use Rattle.std.proofs.lemmas.List.Elements.{filter-append, All-from_recursion}
+use Rattle.std.proofs.lemmas.List.Elements.{filter-append, All-from_recursion, recursion_from_All}
 use Rattle.cs_value.specs.declared.value.OwnedValue.{OwnedValue}
-use Rattle.cs_value.specs.State.{WrittenData, IsRowAt}
-use Rattle.cs_value.proofs.ListLemmas.{AllByRecursion-at, AllByRecursion-append, AllByRecursion-append_left, AllByRecursion-append_right, AllByRecursion-weaker, PairsByRecursion, recursion_from_AllPairs, AllPairs-from_recursion, get_or_map_at}
+use Rattle.cs_value.specs.State.{SchemaData, WrittenData, IsRowAt}
+use Rattle.cs_value.proofs.ListLemmas.{AllByRecursion-at, AllByRecursion-append, AllByRecursion-append_left, AllByRecursion-append_right, AllByRecursion-map, AllByRecursion-weaker, AllPairs-map_before, PairsByRecursion, recursion_from_AllPairs, AllPairs-from_recursion, get_or_map_at, map_more_at}
 use Rattle.cs_session_notes.specs.declared.attached.Attached.{Attached}
 use Rattle.cs_session_notes.specs.declared.fault.SessionFault.{SessionFault}
 use Rattle.cs_session_notes.specs.declared.fault.SessionFault.TheVariants.{NoMemory as OutOfMemory}
+use Rattle.cs_session_notes.specs.Attaching.{IsNewTable}
 use Rattle.cs_session_notes.specs.FirstImages.{FirstImage, AttachedTable, Notes, first_at, noted, writes_of, noted_in, recorded}
+use Rattle.cs_session_notes.specs.Merging.{unwritten}
 use Rattle.cs_session_notes.specs.Noting.{HasFormers, AreFormers, AreApart, Fits, IsDamage, with_write}
 use Rattle.cs_session_notes.specs.Views.{attached_of, kept_of, name_in, IsNewAt, IsIndexOf}
 use Rattle.cs_session_notes.proofs.NotesLemmas.{names_stay}
@@ -267,3 +269,23 @@ module _ (tables : List Attached) (name : List ℕ) (index : ℕ) (found : IsInd
   pub ok_named : {X E : Type 0} (r : Result X E) (P : AttachedTable → Type 0) → AreApart notes_of → OnOk r (P (attached_of item)) → OnOk r (All (λ t. t.name ≡ name → P t) notes_of)
   ok_named (Ok x) P apart has = has_named P apart has
   ok_named (Err e) P apart has = tt
+
+-- ---- the same tables, to which nothing was written
+
+module _ (tables : List Attached) (i : ℕ) (x : Attached) (lt : i < length tables) (is : x ≡ get_or tables i x) where
+  abbrev Copied : List Attached → ℕ → Type 0
+  Copied copy count = map attached_of copy ≡ map unwritten (map attached_of (take count tables))
+
+  -- none of those so far has the name of the next one
+  pub fresh_unwritten : AreApart (map attached_of tables) → (copy : List Attached) → Copied copy i → IsNewTable (map attached_of copy) (rc_str_bytes x.name)
+  fresh_unwritten apart copy so =
+      let before = AllPairs-map_before tables i x lt is attached_of Apart apart in
+      let Other : AttachedTable → Type 0 = λ t. t.name ≢ rc_str_bytes x.name in
+      let notes = map attached_of (take i tables) in
+      subst (All Other) (sym so) (All-from_recursion Other (map unwritten notes) (AllByRecursion-map Other unwritten notes (recursion_from_All Other notes before)))
+
+  -- one more
+  pub unwritten_more : (copy new : List Attached) (name : List ℕ) (schema : SchemaData) → name ≡ rc_str_bytes x.name → schema ≡ x.schema → Copied copy i
+      → map attached_of new ≡ map attached_of copy ++ record { name = name; schema = schema; firsts = [] } ∷ [] → Copied new (i + 1)
+  unwritten_more copy new name schema named same so pushed =
+      rw (pushed, so, named, same, map_more_at tables i x lt is attached_of, map-append unwritten (map attached_of (take i tables)) (attached_of x ∷ [])) refl

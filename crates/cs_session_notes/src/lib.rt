@@ -12,8 +12,9 @@
 //! ```
 //!
 //! `tables` has the attached tables, by their names, `attached` one of them, and `first_images` the keys of a table
-//! with their first rows. `changes` makes the net changeset, on any rows. `checking` says whether rows have the tables
-//! as they were attached, and `fault` why a session refuses a call. It uses no SQL.
+//! with their first rows. `writes` has what tables note, as writes that others can note. `changes` makes the net
+//! changeset, on any rows. `checking` says whether rows have the tables as they were attached, and `fault` why a
+//! session refuses a call. It uses no SQL.
 #![tactic(auto)]
 
 mod attached;
@@ -22,6 +23,7 @@ mod checking;
 mod fault;
 mod first_images;
 mod tables;
+mod writes;
 
 pub use attached::{Attached, are_unwritten};
 pub use changes::net_changeset;

@@ -6,12 +6,14 @@ ghost use Rattle.cs_rows.specs.Editing.{written_of};
 ghost use Rattle.cs_session_notes.specs.declared.fault.SessionFault.TheVariants.{NoMemory as OutOfMemory};
 ghost use Rattle.cs_session_notes.specs.Attaching.{IsNewTable};
 ghost use Rattle.cs_session_notes.specs.FirstImages.{AttachedTable, recorded};
+ghost use Rattle.cs_session_notes.specs.Merging.{all_noted, unwritten};
 ghost use Rattle.cs_session_notes.specs.Noting.{AreFormers, AreApart, IsDamage};
 ghost use Rattle.cs_session_notes.specs.Views.{attached_of, kept_of, IsNewAt, IsIndexOf, HasNonePending};
 
 use crate::attached::{Attached, cut_back_at, is_noted, keep_at, note_write, open_at};
 use crate::fault::SessionFault;
 use crate::first_images::FirstImages;
+use crate::writes::noted_writes;
 use cs_rows::{Schema, Written};
 use cs_value::{NoMemory, Row};
 use indexmap::IndexSet;
@@ -89,6 +91,37 @@ impl AttachedTables {
             firsts,
         })?;
         Ok(())
+    }
+
+    /// Returns tables with the names and schemas of these, to which nothing was written.
+    pub fn unwritten(alloc: Global, tables: &[Attached]) -> Result<AttachedTables, NoMemory>
+        requires { AreApart (map attached_of tables.now) }
+        ensures same { IfOk result (λ copy. map attached_of copy ≡ map unwritten (map attached_of tables.now)) }
+        ensures none_pending { IfOk result (λ copy. AllByRecursion HasNonePending copy) }
+    {
+        let mut copy = AttachedTables::new(alloc);
+        for table in tables {
+            copy.push(alloc, table.name.as_str(), table.schema.copy(alloc)?)?;
+        }
+        Ok(copy)
+    }
+
+    /// Notes the keys that other tables note, with their first rows, each in the table of its name, if there is one.
+    ///
+    /// # Errors
+    ///
+    /// Those of [`note_all`](AttachedTables::note_all).
+    pub fn note_tables(&mut self, alloc: Global, others: &[Attached]) -> Result<(), SessionFault>
+        requires { AreApart (map attached_of self.old) }
+        ensures noted { OnOk result (map attached_of self.new
+            ≡ recorded (map attached_of self.old) (all_noted (map attached_of others.now))) }
+        ensures formers { OnOk result (AreFormers (map attached_of self.old) (all_noted (map attached_of others.now))) }
+        ensures kept { map kept_of self.new ≡ map kept_of self.old }
+        ensures refused { IfErr result (λ e. (e ≡ OutOfMemory)
+            ⊎ (IsDamage e × ¬ AreFormers (map attached_of self.old) (all_noted (map attached_of others.now)))) }
+    {
+        let writes = noted_writes(alloc, others)?;
+        self.note_all(alloc, &writes)
     }
 
     /// Notes copies of the keys that were written and of the rows before, each in its table.
@@ -194,7 +227,7 @@ fn copy_of(alloc: Global, one: &Written) -> Result<Written, NoMemory>
 }
 
 /// A copy of a row, if there is one.
-fn copy_of_row(alloc: Global, row: Option<&Row>) -> Result<Option<Row>, NoMemory>
+pub(crate) fn copy_of_row(alloc: Global, row: Option<&Row>) -> Result<Option<Row>, NoMemory>
     ensures { IfOk result (λ copy. copy ≡ option_map (λ r. r.now) row.entry) }
 {
     match row {

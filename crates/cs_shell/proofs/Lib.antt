@@ -1,4 +1,3 @@
-pub mod CommandExamples
 pub mod CommandLemmas
 pub mod WordExamples
 pub mod WordsLemmas

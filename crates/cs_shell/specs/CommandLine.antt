@@ -14,7 +14,7 @@ use Rattle.cs_shell_script.specs.declared.script.Status.{Status}
 use Rattle.cs_shell_script.specs.declared.script.Status.TheVariants.{Done, LinesRefused, TooLong, InputFault, OutputFault}
 use Rattle.cs_shell_replies.specs.ErrorLines.{refusal_text}
 use Rattle.cs_shell_script.specs.Runs.{RunsInput}
-use Rattle.cs_shell_script.specs.LineAnswers.{IsResource}
+use Rattle.cs_shell_executor.specs.LineAnswers.{IsResource}
 use Rattle.cs_shell_script.specs.Meant.{LineSays}
 use Rattle.cs_shell_script.specs.StoreRuns.{beginning}
 

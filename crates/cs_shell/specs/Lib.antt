@@ -1,6 +1,4 @@
 pub mod Words
-pub mod Folders
-pub mod Applies
 pub mod CommandLine
 pub mod Scripts
 pub mod Outcomes
@@ -33,9 +31,11 @@ pub use Rattle.cs_files.specs.Faults
 pub use Rattle.cs_files.specs.Calls
 pub use Rattle.cs_files.specs.Told
 pub use Rattle.cs_files.specs.Texts
-pub use Rattle.cs_shell_script.specs.ShellState
-pub use Rattle.cs_shell_script.specs.LineAnswers
-pub use Rattle.cs_shell_script.specs.Works
+pub use Rattle.cs_shell_commands.specs.Folders
+pub use Rattle.cs_shell_commands.specs.Applies
+pub use Rattle.cs_shell_executor.specs.ShellState
+pub use Rattle.cs_shell_executor.specs.LineAnswers
+pub use Rattle.cs_shell_executor.specs.Works
 pub use Rattle.cs_shell_replies.specs.ErrorLines
 pub use Rattle.cs_shell_replies.specs.Replies
 pub use Rattle.cs_shell_replies.specs.Report

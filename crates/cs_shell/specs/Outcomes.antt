@@ -5,9 +5,9 @@ use Rattle.cs_file_texts.specs.Texts.{dump_of, sql_of}
 use Rattle.cs_folder.specs.Files.{Files}
 use Rattle.cs_shell.specs.Words.{Asked, Apply, Concat, Dump, Sql, Invert, Shell}
 use Rattle.cs_shell_replies.specs.declared.refusal.Refusal.{Refusal}
-use Rattle.cs_shell.specs.Applies.{Applies}
-use Rattle.cs_shell.specs.Folders.{InvertsFile, JoinsFiles, PrintsFile}
-use Rattle.cs_shell.specs.Folders.{RefusesInvert, RefusesJoin, RefusesPrint}
+use Rattle.cs_shell_commands.specs.Applies.{Applies}
+use Rattle.cs_shell_commands.specs.Folders.{InvertsFile, JoinsFiles, PrintsFile}
+use Rattle.cs_shell_commands.specs.Folders.{RefusesInvert, RefusesJoin, RefusesPrint}
 use Rattle.cs_shell.specs.CommandLine.{Reports}
 
 -- A command that succeeds writes nothing to the error stream. A refused one writes its error line.

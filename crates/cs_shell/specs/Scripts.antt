@@ -5,7 +5,7 @@ use Rattle.cs_rows.specs.declared.fault.StoreError.{StoreError}
 use Rattle.cs_file_texts.specs.declared.told.Told.{Told}
 use Rattle.cs_folder.specs.Files.{Files}
 use Rattle.cs_store_folder.specs.Visits.{RefusesVisit, Visits}
-use Rattle.cs_shell_script.specs.ShellState.{ShellState}
+use Rattle.cs_shell_executor.specs.ShellState.{ShellState}
 use Rattle.cs_shell_replies.specs.ErrorLines.{of_store}
 use Rattle.cs_shell_script.specs.declared.script.Status.{Status}
 use Rattle.cs_shell.specs.CommandLine.{Reports, ReportsStatus}

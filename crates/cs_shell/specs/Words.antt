@@ -18,6 +18,7 @@ use Rattle.cs_shell_grammar.specs.Commands.{choice_text}
 use Rattle.cs_shell.specs.declared.action.Action.{Action}
 use Rattle.cs_shell.specs.declared.action.Action.TheVariants as action
 use Rattle.cs_shell.specs.declared.fault.WordsFault.{WordsFault}
+use Rattle.cs_shell_commands.specs.Applies.{in_memory}
 use Rattle.cs_shell.specs.declared.fault.WordsFault.TheVariants as fault
 
 -- what words ask for; files and stores are named by bytes
@@ -116,9 +117,6 @@ asked_by rows = option_and_then (λ policy. option_and_then (λ file. option_and
     (first_of (codes "COMMAND") rows)) (first_of (codes "FILE") rows)) (policy_in rows)
 
 -- ---- what words ask for
-
-abbrev pub in_memory : Text
-in_memory = codes ":memory:"
 
 -- `clap` finds no fault in the words
 abbrev pub asked_where : Kinds → List Row → Option Asked

@@ -3,9 +3,6 @@
 use cs_apply_conflicts::Noop;
 use cs_apply_rows::Policy;
 
-/// The store that is in memory, where a store in a file is named.
-pub const IN_MEMORY: &str = ":memory:";
-
 /// What the words of a command line ask for. Files and stores are named by their paths.
 #[derive(Clone, Copy, Debug)]
 pub enum Action<'a> {
@@ -35,7 +32,7 @@ pub enum Action<'a> {
         file: &'a str,
         out: &'a str,
     },
-    /// The input is run as a script on a store, which may be [`IN_MEMORY`].
+    /// The input is run as a script on a store, which may be [`IN_MEMORY`](cs_shell_commands::IN_MEMORY).
     Shell {
         file: &'a str,
     },

@@ -4,12 +4,13 @@ ghost use Rattle.clap.specs.Words.{first_of, found_of, rows_of};
 ghost use Rattle.cs_shell.specs.Words.{asked, asked_by, asked_of, choice_in, chosen, noop_in, policy_in, Refuses};
 ghost use Rattle.cs_shell.specs.Words.{bare_in, short_in, long_in, command_in};
 
-use crate::action::{Action, IN_MEMORY};
+use crate::action::Action;
 use crate::command_line::command_line;
 use crate::fault::WordsFault;
 use clap::ArgMatches;
 use cs_apply_conflicts::Noop;
 use cs_apply_rows::{Choice, Policy};
+use cs_shell_commands::IN_MEMORY;
 use cs_shell_grammar::choice_name;
 use std::alloc::Global;
 

@@ -3,7 +3,8 @@ ghost use Rattle.std.specs.Prelude.{◌≡◌, ◌≢◌, ◌≤◌, None, Some,
 ghost use Rattle.std.specs.Io.KnownBytes.{Appends};
 ghost use Rattle.cs_files.specs.Told.{has_failed, known};
 ghost use Rattle.cs_files.specs.Calls.{AppendsFront};
-ghost use Rattle.cs_shell.specs.Words.{Asked, Refuses, Shell, asked, asked_of, in_memory};
+ghost use Rattle.cs_shell_commands.specs.Applies.{in_memory};
+ghost use Rattle.cs_shell.specs.Words.{Asked, Refuses, Shell, asked, asked_of};
 ghost use Rattle.cs_shell.specs.declared.fault.WordsFault.TheVariants as fault;
 ghost use Rattle.cs_shell_script.specs.Runs.{exit_of};
 ghost use Rattle.cs_shell.specs.Outcomes.{CarriesOut, EndsAs};
@@ -11,14 +12,13 @@ ghost use Rattle.cs_shell.specs.Scripts.{EndsScript, Scripts};
 ghost use Rattle.cs_shell.specs.CommandLine.{EndsUnasked, Helps, IsCommand};
 ghost use Rattle.cs_shell.specs.CommandLine.{Reports, ReportsStatus, RunsInMemory};
 
-use crate::action::{Action, IN_MEMORY};
-use crate::applying::apply;
+use crate::action::Action;
 use crate::fault::WordsFault;
-use crate::files::{concat, dump, invert, sql};
 use crate::parse::parse_words;
 use crate::scripting::Scripting;
 use cs_files::{OutputFault, Told, write_whole};
 use cs_folder::{Folder, HostFolder};
+use cs_shell_commands::{IN_MEMORY, apply, concat, dump, invert, sql};
 use cs_shell_replies::{Refusal, write_refusal};
 use cs_shell_script::{Status, run_script};
 use cs_store::StoreError;

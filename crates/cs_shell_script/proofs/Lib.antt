@@ -1,16 +1,7 @@
-pub mod ApplyTurnLemmas
-pub mod CommandLemmas
-pub mod Examples
 pub mod LineLemmas
 pub mod NetLawLemmas
 pub mod NetLemmas
 pub mod ProgressLemmas
-pub mod ReplyLemmas
 pub mod RunLemmas
 pub mod ScriptExamples
-pub mod SeenLemmas
 pub mod SessionLawLemmas
-pub mod SessionLemmas
-pub mod SessionTurnLemmas
-pub mod StatementLemmas
-pub mod TurnLemmas

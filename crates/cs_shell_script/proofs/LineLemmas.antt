@@ -7,19 +7,19 @@ use Rattle.cs_value.specs.State.{State}
 use Rattle.cs_store.specs.Store.{tables_in}
 use Rattle.cs_file_texts.specs.declared.told.Told.{Told}
 use Rattle.cs_shell_script.specs.declared.script.Status.{Status}
-use Rattle.cs_shell_script.specs.declared.workspace.Workspace.{Workspace}
+use Rattle.cs_shell_executor.specs.declared.workspace.Workspace.{Workspace}
 use Rattle.cs_shell_replies.specs.declared.refusal.Refusal.{Refusal}
 use Rattle.cs_shell_replies.specs.Replies.{Reply, Refused}
 use Rattle.cs_shell_script.specs.Runs.{LinesGive, Runs}
-use Rattle.cs_shell_script.specs.LineAnswers.{IsResource, LineGives, unanswered}
+use Rattle.cs_shell_executor.specs.LineAnswers.{IsResource, LineGives, unanswered}
 use Rattle.cs_shell_script.specs.Meant.{LineSays, meant}
-use Rattle.cs_shell_script.specs.ShellState.{ShellState}
+use Rattle.cs_shell_executor.specs.ShellState.{ShellState}
 use Rattle.cs_shell_script.specs.StoreRuns.{HasReply, IsSettled, RunsScript, Shows, beginning}
 use Rattle.cs_store.specs.Turns.{AreSame, Known, Stands, TurnsBetween}
-use Rattle.cs_shell_script.specs.Works.{GaveOn, OrUnable, WorksOn, IsHere, seen, seen_session}
+use Rattle.cs_shell_executor.specs.Works.{GaveOn, OrUnable, WorksOn, IsHere, seen, seen_session}
 use Rattle.cs_shell_script.specs.Shells.{Answers, RunsShell}
 use Rattle.cs_shell_script.proofs.RunLemmas.{Runs-answered}
-use Rattle.cs_shell_script.proofs.TurnLemmas.{between_at_rest, between_still, between_then, between_weaker, known_shows, unable_as}
+use Rattle.cs_shell_executor.proofs.TurnLemmas.{between_at_rest, between_still, between_then, between_weaker, known_shows, unable_as}
 
 -- a line does what the line that it spells does
 pub line_meant : (old new : sqlite.State) (before after : Workspace) (line plain : List ℕ) (reply : Reply) → meant line ≡ plain

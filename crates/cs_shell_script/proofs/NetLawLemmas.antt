@@ -30,10 +30,10 @@ use Rattle.cs_session.proofs.RewoundLemmas.{other_name}
 use Rattle.cs_shell_grammar.specs.Commands.{CommandData, AssignmentData}
 use Rattle.cs_shell_columns.specs.Rows.{with_assigned}
 use Rattle.cs_shell_replies.specs.Replies.{Reply}
-use Rattle.cs_shell_script.specs.ShellState.{SessionTable, SessionTables, ShellState, touch, written_to, put_back}
-use Rattle.cs_shell_script.specs.LineAnswers.{CreateGives, unknown_key, declared, not_declared, declared_schema, EditGives, UpdateGives, not_updated, no_row, updates_row, DeleteGives, not_deleted, deletes_row}
-use Rattle.cs_shell_script.specs.LineAnswers.{ApplyGives, applied, not_applied, ByKind, RevertGives, WithSlot, with_session, WithSession, OpenGives, AttachGives, attached, already, no_table, ChangesetGives, IsEmptyGives, UndoGives, CloseGives}
-use Rattle.cs_shell_script.specs.LineAnswers.{CommandGives, created, inserts, updates, deletes, selects, on_slots, applies, reverts, opens, attaches, changes, tells_empty, undoes, closes, unable, LineGives, not_text, nothing, malformed, answered, unanswered}
+use Rattle.cs_shell_executor.specs.ShellState.{SessionTable, SessionTables, ShellState, touch, written_to, put_back}
+use Rattle.cs_shell_executor.specs.LineAnswers.{CreateGives, unknown_key, declared, not_declared, declared_schema, EditGives, UpdateGives, not_updated, no_row, updates_row, DeleteGives, not_deleted, deletes_row}
+use Rattle.cs_shell_executor.specs.LineAnswers.{ApplyGives, applied, not_applied, ByKind, RevertGives, WithSlot, with_session, WithSession, OpenGives, AttachGives, attached, already, no_table, ChangesetGives, IsEmptyGives, UndoGives, CloseGives}
+use Rattle.cs_shell_executor.specs.LineAnswers.{CommandGives, created, inserts, updates, deletes, selects, on_slots, applies, reverts, opens, attaches, changes, tells_empty, undoes, closes, unable, LineGives, not_text, nothing, malformed, answered, unanswered}
 use Rattle.cs_shell_script.specs.Net.{IsTracked, AreTracked, HasNet, LinesLead, NetOfTouched}
 use Rattle.cs_shell_script.proofs.NetLemmas.{OnlyWrites, touched_tracked, same_tracked, back_tracked, new_tracked}
 

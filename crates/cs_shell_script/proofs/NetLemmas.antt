@@ -20,7 +20,7 @@ use Rattle.cs_group.specs.Net.{is_same, old_record, new_record}
 use Rattle.cs_group.specs.Net.{net_entry}
 use Rattle.cs_group.proofs.ImageLemmas.{same_values, same_itself}
 use Rattle.cs_session_notes.specs.FirstImages.{writes_of}
-use Rattle.cs_shell_script.specs.ShellState.{SessionTable, with_keys, touch}
+use Rattle.cs_shell_executor.specs.ShellState.{SessionTable, with_keys, touch}
 use Rattle.cs_shell_script.specs.Net.{IsTracked}
 
 -- ---- the net change of a row

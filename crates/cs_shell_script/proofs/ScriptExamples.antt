@@ -15,17 +15,17 @@ use Rattle.cs_wire_entries.specs.declared.fault.ReadFaultKind.TheVariants.{Empty
 use Rattle.cs_wire.proofs.Examples.{one_change, row, delete_file}
 use Rattle.cs_shell_replies.specs.ErrorLines.{refusal_text}
 use Rattle.cs_shell_replies.specs.Replies.{Reply, Silent, Text as Printed, Dumped, Refused, reply_text, replies_text}
-use Rattle.cs_shell_script.specs.ShellState.{ShellState}
+use Rattle.cs_shell_executor.specs.ShellState.{ShellState}
 use Rattle.cs_shell_script.specs.StoreRuns.{beginning}
-use Rattle.cs_shell_script.specs.LineAnswers.{LineGives}
+use Rattle.cs_shell_executor.specs.LineAnswers.{LineGives}
 use Rattle.cs_shell_script.specs.Runs.{HasNoFeed, AnswersAll, RunsInput}
 use Rattle.cs_value.specs.Quoting.{doubled}
 use Rattle.cs_files.specs.Texts.{literal, separated, field_text, header_text, entry_text, group_text}
 use Rattle.cs_shell_script.specs.declared.script.Status.TheVariants.{Done}
 use Rattle.cs_file_texts.specs.declared.told.Told.{Told}
 use Rattle.cs_shell_replies.specs.declared.refusal.Refusal.TheVariants.{Read, Syntax, EmptySlot}
-use Rattle.cs_shell_script.proofs.Examples.{hex_line, hex_line_asks, invert_line, load_line, a_filled, both_filled, with_slots}
-use Rattle.cs_shell_script.proofs.Examples.{slots_give, empty_slot_is_refused, load_line_gives, invert_line_gives, hex_line_gives}
+use Rattle.cs_shell_executor.proofs.Examples.{hex_line, hex_line_asks, invert_line, load_line, a_filled, both_filled, with_slots}
+use Rattle.cs_shell_executor.proofs.Examples.{slots_give, empty_slot_is_refused, load_line_gives, invert_line_gives, hex_line_gives}
 
 computing : Unit {0}
 unfolding encode_utf8 chars is_utf8

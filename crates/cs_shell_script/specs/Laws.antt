@@ -1,10 +1,10 @@
 -- What holds of any interpreter that answers lines over a store.
 use Rattle.std.proofs.Common.{ℕ, Bool, List, inl, refl, arith}
 use Rattle.sqlite.specs.State.{State}
-use Rattle.cs_shell_script.specs.declared.workspace.Workspace.{Workspace}
+use Rattle.cs_shell_executor.specs.declared.workspace.Workspace.{Workspace}
 use Rattle.cs_shell_replies.specs.declared.refusal.Refusal.TheVariants.{NoMemory}
 use Rattle.cs_shell_replies.specs.Replies.{Refused}
-use Rattle.cs_shell_script.specs.LineAnswers.{unanswered}
+use Rattle.cs_shell_executor.specs.LineAnswers.{unanswered}
 use Rattle.cs_store.specs.Turns.{by_nothing}
 use Rattle.cs_shell_script.specs.Meant.{meant}
 use Rattle.cs_shell_script.specs.Shells.{Answers}

@@ -1,7 +1,4 @@
 pub mod Net
-pub mod ShellState
-pub mod LineAnswers
-pub mod Works
 pub mod Shells
 pub mod Laws
 pub mod StoreRuns

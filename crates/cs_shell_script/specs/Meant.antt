@@ -5,8 +5,8 @@ use Rattle.hex.specs.Hex.{decode_of}
 use Rattle.hex.specs.declared.error.FromHexError.{FromHexError}
 use Rattle.cs_shell_tokens.specs.Words.{words_of}
 use Rattle.cs_shell_replies.specs.Replies.{Reply}
-use Rattle.cs_shell_script.specs.LineAnswers.{LineGives}
-use Rattle.cs_shell_script.specs.ShellState.{ShellState}
+use Rattle.cs_shell_executor.specs.LineAnswers.{LineGives}
+use Rattle.cs_shell_executor.specs.ShellState.{ShellState}
 
 -- the bytes that were decoded, or else the line
 abbrev pub decoded_or : List ℕ → Result (List ℕ) FromHexError → List ℕ

@@ -8,8 +8,8 @@ use Rattle.cs_value.specs.State.{RowMap, State, schema_at, rows_at, row_at}
 use Rattle.cs_wire_entries.specs.declared.entry.Entry.{Entry}
 use Rattle.cs_group.specs.Net.{net_entry}
 use Rattle.cs_shell_replies.specs.Replies.{Reply}
-use Rattle.cs_shell_script.specs.LineAnswers.{LineGives}
-use Rattle.cs_shell_script.specs.ShellState.{SessionTable, SessionTables, ShellState, net_entries}
+use Rattle.cs_shell_executor.specs.LineAnswers.{LineGives}
+use Rattle.cs_shell_executor.specs.ShellState.{SessionTable, SessionTables, ShellState, net_entries}
 
 -- ---- two maps of rows
 

@@ -4,7 +4,7 @@ use Rattle.cs_value.specs.State.{State}
 use Rattle.cs_shell_replies.specs.Replies.{Reply}
 use Rattle.cs_shell_script.specs.Net.{HasNet}
 use Rattle.cs_shell_script.specs.Meant.{LineSays}
-use Rattle.cs_shell_script.specs.ShellState.{ShellState}
+use Rattle.cs_shell_executor.specs.ShellState.{ShellState}
 use Rattle.cs_shell_script.specs.Runs.{LinesGive}
 use Rattle.cs_shell_script.specs.StoreRuns.{beginning}
 

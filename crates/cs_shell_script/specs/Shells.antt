@@ -3,10 +3,10 @@ use Rattle.std.specs.Prelude.{ℕ, ◌||◌, Bool, List, Option}
 use Rattle.sqlite.specs.State as sqlite
 use Rattle.cs_value.specs.State.{State}
 use Rattle.cs_shell_replies.specs.Replies.{Reply}
-use Rattle.cs_shell_script.specs.declared.workspace.Workspace.{Workspace}
+use Rattle.cs_shell_executor.specs.declared.workspace.Workspace.{Workspace}
 use Rattle.cs_shell_script.specs.Meant.{LineSays}
 use Rattle.cs_store.specs.Turns.{Known, TurnsBetween}
-use Rattle.cs_shell_script.specs.Works.{GaveOn, IsHere, seen}
+use Rattle.cs_shell_executor.specs.Works.{GaveOn, IsHere, seen}
 use Rattle.cs_shell_script.specs.Runs.{Runs}
 use Rattle.cs_shell_script.specs.declared.script.Status.{Status}
 use Rattle.cs_file_texts.specs.declared.told.Told.{Told}

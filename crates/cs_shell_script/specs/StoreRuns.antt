@@ -7,7 +7,7 @@ use Rattle.cs_file_texts.specs.declared.told.Told.{Told}
 use Rattle.cs_shell_script.specs.declared.script.Status.{Status}
 use Rattle.cs_shell_replies.specs.Replies.{Reply}
 use Rattle.cs_shell_script.specs.Meant.{LineSays}
-use Rattle.cs_shell_script.specs.ShellState.{ShellState}
+use Rattle.cs_shell_executor.specs.ShellState.{ShellState}
 use Rattle.cs_shell_script.specs.Runs.{Runs}
 pub use Rattle.cs_store.specs.Turns.{Shows, IsSettled, SparesOthers, SparesStore, TellsFailures}
 

@@ -46,7 +46,7 @@ pub enum Status {
 }
 
 /// Why a script is not run to its end.
-#[derive(Clone, Copy, Debug, PartialEq, Eq)]
+#[derive(Clone, Copy)]
 enum Interruption {
     /// It has more than `SCRIPT_LIMIT` bytes.
     TooLong,
@@ -111,7 +111,7 @@ impl RunningScript {
         }
     }
 
-    /// Returns the machine's reply to the line.
+    /// Returns the interpreter's reply to the line.
     fn answer_line<M: Interpreter>(
         &self,
         alloc: Global,

@@ -171,6 +171,48 @@ fn records_a_transaction(rt: HostRuntime) {
     end(transaction.roll_back());
 }
 
+/// Commits a transaction that one session noted, and has another session note it too. If a call is
+/// refused, that session is as it was, and the store as when the transaction began.
+fn commit_noted<S: Alter + Drop>(
+    alloc: Global,
+    session: Session,
+    during: &Session,
+    transaction: Transaction<S>,
+) -> Result<(Session, Store<S>), (SessionFault, Session, Store<S>)> {
+    match session.merge(alloc, during) {
+        Ok(merged) => match transaction.commit() {
+            Ok(store) => Ok((merged.keep(), store)),
+            Err((error, store)) => Err((SessionFault::from(error), merged.forget(), store)),
+        },
+        Err((fault, session)) => Err((fault, session, transaction.roll_back())),
+    }
+}
+
+#[test]
+fn merges_what_a_transaction_noted(rt: HostRuntime) {
+    let (mut store, mut session) = (store_of(&rt, &[false, false]), Session::new(rt.alloc()));
+    let attached = session.attach(rt.alloc(), &mut store, "t");
+    attached.expect(&rt, "a table");
+    let mut during = session.unwritten(rt.alloc()).expect(&rt, "memory");
+    let Ok(mut transaction) = store.into_transaction() else {
+        panic!(rt; "refused");
+    };
+    let edits = [edit_of(&rt, Call::Insert("t", &[Value::Int(1), Value::Text("x")]))];
+    let file = record(rt.alloc(), &mut transaction, &mut during, &edits);
+    assert!(rt; file.expect(&rt, "no refusal").as_slice() == INSERT);
+    let Ok(merged) = session.merge(rt.alloc(), &during) else {
+        panic!(rt; "refused");
+    };
+    let session = merged.forget();
+    assert!(rt; session.is_empty());
+    let Ok((session, mut store)) = commit_noted(rt.alloc(), session, &during, transaction) else {
+        panic!(rt; "refused");
+    };
+    let undone = session.undo(rt.alloc(), &mut store);
+    assert!(rt; undone.expect(&rt, "no refusal").written.len() == 1);
+    end(store);
+}
+
 /// Carries out edits, or undoes all that the session noted where one of them is refused.
 fn edit_all<S: Alter>(
     alloc: Global,

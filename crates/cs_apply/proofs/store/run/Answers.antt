@@ -1,11 +1,10 @@
 -- `store::run`: the clauses `refused`, `transacts` and `caused`.
-use Rattle.std.proofs.Common.{◌≡◌, ℕ, List, IfErr, refl, rules}
+use Rattle.std.proofs.Common.{◌≡◌, ℕ, List, refl, rules, sym, ◌∙◌}
 use Rattle.std.proofs.lemmas.Result.{err_from_is_err_and}
 use Rattle.std.specs.Fn.{FnReturnsAt}
 use Rattle.sqlite.specs.Held.{state}
 use Rattle.sqlite.specs.State.{HasCleanDisk}
 use Rattle.cs_store.specs.Store.{tables_in}
-use Rattle.cs_store.specs.Records.{KeepsContent, KeepsCrash}
 use Rattle.cs_store.proofs.TransactLemmas.{unbegun_transacts, dropped_transacts, uncommitted_transacts, committed_transacts}
 use Rattle.cs_value.specs.State as tables
 use Rattle.cs_apply_conflicts.specs.declared.conflict.Noop.{Noop}
@@ -28,17 +27,16 @@ pub returns-in_err-batch-clause-transacts : goal.returns-in_err-batch-clause-tra
 returns-in_err-batch-clause-transacts g c =
     let old = state g.S.Store c.args.store.now in
     let new = state g.S.Store c.begin.follows.lender-at-none in
-    let keeps : KeepsCrash old new = search rules in
-    let kept : HasCleanDisk new → KeepsContent old new = search rules in
+    let rests = rw c.in_err-batch.was at c.begin.follows.holds-at-none in
     let p = err_from_is_err_and c.from_residual.result c.from_residual.ensures.1 in
-    rw p.1 (unbegun_transacts g.S.Store g.met.S.Store.settled g.met.S.Store.stays c.args.store.now c.begin.follows.lender-at-none c.crash_law.ensures _ (AppliesInto (FnReturnsAt g.H.Fn c.args.handler.now) c.args.noop c.args.file.now c.args.direction (tables_in old.now)) keeps kept)
+    rw p.1 (unbegun_transacts g.S.Store g.met.S.Store.settled g.met.S.Store.stays c.args.store.now c.begin.follows.lender-at-none c.crash_law.ensures _ (AppliesInto (FnReturnsAt g.H.Fn c.args.handler.now) c.args.noop c.args.file.now c.args.direction (tables_in old.now)) rests.0 rests.1)
 
 pub returns-in_err-tally-clause-transacts : goal.returns-in_err-tally-clause-transacts
 returns-in_err-tally-clause-transacts g c =
     let old = state g.S.Store c.args.store.now in
     let begun = state g.S.Store c.in_ok-batch.batch.store.now in
     let mid = state g.S.Store c.tally_in.new.rows.store.now in
-    let same : c.drop-batch.new.self.0 ≡ c.store-in_err-tally-1.given.0 = search rules in
+    let same : c.drop-batch.new.self.0 ≡ c.store-in_err-tally-1.given.0 = sym (c.store-in_err-tally-1.given.1 (sym (c.tally_in.ensures.kept.0 ∙ c.in_ok-batch.ensures.same_reference))) in
     let p = err_from_is_err_and c.from_residual-in_err-tally.result c.from_residual-in_err-tally.ensures.1 in
     rw (p.1, ← same) (dropped_transacts g.S.Store g.met.S.Store.settled g.met.S.Store.stays c.args.store.now c.drop-batch.new.self.0 c.crash_law.ensures begun mid c.in_ok-batch.ensures.begun c.in_ok-batch.ensures.survives c.tally_in.ensures.kept.1
     _ (AppliesInto (FnReturnsAt g.H.Fn c.args.handler.now) c.args.noop c.args.file.now c.args.direction (tables_in old.now)) c.drop-batch.ensures.survives c.drop-batch.ensures.undone)
@@ -47,7 +45,7 @@ pub returns-in_err-commit-clause-transacts : goal.returns-in_err-commit-clause-t
 returns-in_err-commit-clause-transacts g c =
     let begun = state g.S.Store c.in_ok-batch.batch.store.now in
     let mid = state g.S.Store c.tally_in.new.rows.store.now in
-    let same : c.commit.new.self.0 ≡ c.store-2-1.given.0 = search rules in
+    let same : c.commit.new.self.0 ≡ c.store-2-1.given.0 = sym (c.store-2-1.given.1 (sym (c.tally_in.ensures.kept.0 ∙ c.in_ok-batch.ensures.same_reference))) in
     let p = err_from_is_err_and c.from_residual-in_err-commit.result c.from_residual-in_err-commit.ensures.1 in
     rw (p.1, ← same) (uncommitted_transacts g.S.Store g.met.S.Store.settled g.met.S.Store.stays c.args.store.now c.commit.new.self.0 c.crash_law.ensures begun mid c.in_ok-batch.ensures.begun c.in_ok-batch.ensures.survives c.tally_in.ensures.kept.1
     (AppliesInto (FnReturnsAt g.H.Fn c.args.handler.now) c.args.noop c.args.file.now c.args.direction) (λ clean. into c.in_ok-tally.tally (c.in_ok-tally.ensures.applied clean)) c.commit.ensures.atomic.survives _ c.in_err-commit.ensures.undone)
@@ -56,7 +54,7 @@ pub returns-clause-transacts : goal.returns-clause-transacts
 returns-clause-transacts g c =
     let begun = state g.S.Store c.in_ok-batch.batch.store.now in
     let mid = state g.S.Store c.tally_in.new.rows.store.now in
-    let same : c.commit.new.self.0 ≡ c.store-2-1.given.0 = search rules in
+    let same : c.commit.new.self.0 ≡ c.store-2-1.given.0 = sym (c.store-2-1.given.1 (sym (c.tally_in.ensures.kept.0 ∙ c.in_ok-batch.ensures.same_reference))) in
     rw (← same) (committed_transacts g.S.Store g.met.S.Store.settled g.met.S.Store.stays c.args.store.now c.commit.new.self.0 c.crash_law.ensures begun mid c.in_ok-batch.ensures.begun c.in_ok-batch.ensures.survives c.tally_in.ensures.kept.1
     (AppliesInto (FnReturnsAt g.H.Fn c.args.handler.now) c.args.noop c.args.file.now c.args.direction) (λ clean. into c.in_ok-tally.tally (c.in_ok-tally.ensures.applied clean)) c.commit.ensures.atomic.survives _ c.in_ok-commit.ensures.committed c.in_ok-commit.ensures.others c.in_ok-commit.ensures.left)
 
@@ -71,8 +69,8 @@ pub returns-in_err-batch-clause-caused : goal.returns-in_err-batch-clause-caused
 returns-in_err-batch-clause-caused g c clean =
     let old = state g.S.Store c.args.store.now in
     let new = state g.S.Store c.begin.follows.lender-at-none in
-    let fails : HasCleanDisk new → IfErr c.begin.result (stores.IsCaused (BeginFails old new)) = search rules in
-    let failed : stores.IsCaused (BeginFails old new) c.in_err-batch.field-0.0 = rw c.in_err-batch.was at (fails clean) in
+    let rests = rw c.in_err-batch.was at c.begin.follows.holds-at-none in
+    let failed : stores.IsCaused (BeginFails old new) c.in_err-batch.field-0.0 = rests.2 clean in
     rows_caused_on c.from_residual.result _ _ c.in_err-batch.field-0.0 c.from_residual.ensures.1 (begin_fails _ old new) failed
 
 pub returns-in_err-tally-clause-caused : goal.returns-in_err-tally-clause-caused
@@ -81,7 +79,7 @@ returns-in_err-tally-clause-caused g c clean =
     let begun = state g.S.Store c.in_ok-batch.batch.store.now in
     let mid = state g.S.Store c.tally_in.new.rows.store.now in
     let last = state g.S.Store c.drop-batch.new.self.0 in
-    let same : c.drop-batch.new.self.0 ≡ c.store-in_err-tally-1.given.0 = search rules in
+    let same : c.drop-batch.new.self.0 ≡ c.store-in_err-tally-1.given.0 = sym (c.store-in_err-tally-1.given.1 (sym (c.tally_in.ensures.kept.0 ∙ c.in_ok-batch.ensures.same_reference))) in
     let last_clean : HasCleanDisk last = rw same clean in
     let mid_clean = was_clean mid last c.drop-batch.ensures.survives last_clean in
     rw (← same) (caused_on c.from_residual-in_err-tally.result _ _ c.in_err-tally.field-0.0 c.from_residual-in_err-tally.ensures.1
@@ -93,7 +91,7 @@ returns-in_err-commit-clause-caused g c clean =
     let begun = state g.S.Store c.in_ok-batch.batch.store.now in
     let mid = state g.S.Store c.tally_in.new.rows.store.now in
     let last = state g.S.Store c.commit.new.self.0 in
-    let same : c.commit.new.self.0 ≡ c.store-2-1.given.0 = search rules in
+    let same : c.commit.new.self.0 ≡ c.store-2-1.given.0 = sym (c.store-2-1.given.1 (sym (c.tally_in.ensures.kept.0 ∙ c.in_ok-batch.ensures.same_reference))) in
     let last_clean : HasCleanDisk last = rw same clean in
     let kept = c.in_ok-tally.ensures.kept in
     let survives = c.commit.ensures.atomic.survives in

@@ -1,10 +1,9 @@
 -- `applying::apply_batch`: what `apply_rows` asks for, the clauses `caused`, `transacts`.
-use Rattle.std.proofs.Common.{◌≡◌, rules, IfErr, refl}
+use Rattle.std.proofs.Common.{◌≡◌, refl, sym, ◌∙◌}
 use Rattle.std.specs.Fn.{FnReturnsAt}
 use Rattle.std.proofs.lemmas.Result.{err_from_is_err_and}
 use Rattle.sqlite.specs.Held.{state}
 use Rattle.sqlite.specs.State.{HasCleanDisk}
-use Rattle.cs_store.specs.Records.{KeepsContent, KeepsCrash}
 use Rattle.cs_store.specs.Store.{tables_in}
 use Rattle.cs_store.proofs.TransactLemmas.{unbegun_transacts, dropped_transacts, uncommitted_transacts, committed_transacts}
 use Rattle.cs_apply.specs.Crash.{AppliesInto}
@@ -24,17 +23,16 @@ pub returns-in_err-batch-clause-transacts : goal.returns-in_err-batch-clause-tra
 returns-in_err-batch-clause-transacts g c =
     let old = state g.S.Store c.args.store.now in
     let new = state g.S.Store c.begin.follows.lender-at-none in
-    let keeps : KeepsCrash old new = search rules in
-    let kept : HasCleanDisk new → KeepsContent old new = search rules in
+    let rests = rw c.in_err-batch.was at c.begin.follows.holds-at-none in
     let p = err_from_is_err_and c.from_residual.result c.from_residual.ensures.1 in
-    rw p.1 (unbegun_transacts g.S.Store g.met.S.Store.settled g.met.S.Store.stays c.args.store.now c.begin.follows.lender-at-none c.crash_law.ensures _ (AppliesInto (FnReturnsAt g.H.Fn c.args.handler.now) c.args.noop c.args.file.now c.args.direction (tables_in old.now)) keeps kept)
+    rw p.1 (unbegun_transacts g.S.Store g.met.S.Store.settled g.met.S.Store.stays c.args.store.now c.begin.follows.lender-at-none c.crash_law.ensures _ (AppliesInto (FnReturnsAt g.H.Fn c.args.handler.now) c.args.noop c.args.file.now c.args.direction (tables_in old.now)) rests.0 rests.1)
 
 pub returns-in_err-report-clause-transacts : goal.returns-in_err-report-clause-transacts
 returns-in_err-report-clause-transacts g c =
     let old = state g.S.Store c.args.store.now in
     let begun = state g.S.Store c.in_ok-batch.batch.store.now in
     let mid = state g.S.Store c.apply_rows.new.rows.store.now in
-    let same : c.drop-batch.new.self.0 ≡ c.store-in_err-report-1.given.0 = search rules in
+    let same : c.drop-batch.new.self.0 ≡ c.store-in_err-report-1.given.0 = sym (c.store-in_err-report-1.given.1 (sym (c.apply_rows.ensures.kept.0 ∙ c.in_ok-batch.ensures.same_reference))) in
     let p = err_from_is_err_and c.from_residual-in_err-report.result c.from_residual-in_err-report.ensures.1 in
     rw (p.1, ← same) (dropped_transacts g.S.Store g.met.S.Store.settled g.met.S.Store.stays c.args.store.now c.drop-batch.new.self.0 c.crash_law.ensures begun mid c.in_ok-batch.ensures.begun c.in_ok-batch.ensures.survives c.apply_rows.ensures.kept.1
     _ (AppliesInto (FnReturnsAt g.H.Fn c.args.handler.now) c.args.noop c.args.file.now c.args.direction (tables_in old.now)) c.drop-batch.ensures.survives c.drop-batch.ensures.undone)
@@ -43,7 +41,7 @@ pub returns-in_err-commit-clause-transacts : goal.returns-in_err-commit-clause-t
 returns-in_err-commit-clause-transacts g c =
     let begun = state g.S.Store c.in_ok-batch.batch.store.now in
     let mid = state g.S.Store c.apply_rows.new.rows.store.now in
-    let same : c.commit.new.self.0 ≡ c.store-2-1.given.0 = search rules in
+    let same : c.commit.new.self.0 ≡ c.store-2-1.given.0 = sym (c.store-2-1.given.1 (sym (c.apply_rows.ensures.kept.0 ∙ c.in_ok-batch.ensures.same_reference))) in
     let p = err_from_is_err_and c.from_residual-in_err-commit.result c.from_residual-in_err-commit.ensures.1 in
     rw (p.1, ← same) (uncommitted_transacts g.S.Store g.met.S.Store.settled g.met.S.Store.stays c.args.store.now c.commit.new.self.0 c.crash_law.ensures begun mid c.in_ok-batch.ensures.begun c.in_ok-batch.ensures.survives c.apply_rows.ensures.kept.1
     (AppliesInto (FnReturnsAt g.H.Fn c.args.handler.now) c.args.noop c.args.file.now c.args.direction) (λ clean. record { met = _; skips = _; writes = _; passed = _; applies = (c.in_ok-report.ensures.recorded clean).applied }) c.commit.ensures.atomic.survives _ c.in_err-commit.ensures.undone)
@@ -52,7 +50,7 @@ pub returns-clause-transacts : goal.returns-clause-transacts
 returns-clause-transacts g c =
     let begun = state g.S.Store c.in_ok-batch.batch.store.now in
     let mid = state g.S.Store c.apply_rows.new.rows.store.now in
-    let same : c.commit.new.self.0 ≡ c.store-2-1.given.0 = search rules in
+    let same : c.commit.new.self.0 ≡ c.store-2-1.given.0 = sym (c.store-2-1.given.1 (sym (c.apply_rows.ensures.kept.0 ∙ c.in_ok-batch.ensures.same_reference))) in
     rw (← same) (committed_transacts g.S.Store g.met.S.Store.settled g.met.S.Store.stays c.args.store.now c.commit.new.self.0 c.crash_law.ensures begun mid c.in_ok-batch.ensures.begun c.in_ok-batch.ensures.survives c.apply_rows.ensures.kept.1
     (AppliesInto (FnReturnsAt g.H.Fn c.args.handler.now) c.args.noop c.args.file.now c.args.direction) (λ clean. record { met = _; skips = _; writes = _; passed = _; applies = (c.in_ok-report.ensures.recorded clean).applied }) c.commit.ensures.atomic.survives _ c.in_ok-commit.ensures.committed c.in_ok-commit.ensures.others c.in_ok-commit.ensures.left)
 
@@ -60,8 +58,8 @@ pub returns-in_err-batch-clause-caused : goal.returns-in_err-batch-clause-caused
 returns-in_err-batch-clause-caused g c clean =
     let old = state g.S.Store c.args.store.now in
     let new = state g.S.Store c.begin.follows.lender-at-none in
-    let fails : HasCleanDisk new → IfErr c.begin.result (stores.IsCaused (BeginFails old new)) = search rules in
-    let failed : stores.IsCaused (BeginFails old new) c.in_err-batch.field-0.0 = rw c.in_err-batch.was at (fails clean) in
+    let rests = rw c.in_err-batch.was at c.begin.follows.holds-at-none in
+    let failed : stores.IsCaused (BeginFails old new) c.in_err-batch.field-0.0 = rests.2 clean in
     rows_caused_on c.from_residual.result _ _ c.in_err-batch.field-0.0 c.from_residual.ensures.1 (begin_fails _ old new) failed
 
 pub returns-in_err-report-clause-caused : goal.returns-in_err-report-clause-caused
@@ -70,7 +68,7 @@ returns-in_err-report-clause-caused g c clean =
     let begun = state g.S.Store c.in_ok-batch.batch.store.now in
     let mid = state g.S.Store c.apply_rows.new.rows.store.now in
     let last = state g.S.Store c.drop-batch.new.self.0 in
-    let same : c.drop-batch.new.self.0 ≡ c.store-in_err-report-1.given.0 = search rules in
+    let same : c.drop-batch.new.self.0 ≡ c.store-in_err-report-1.given.0 = sym (c.store-in_err-report-1.given.1 (sym (c.apply_rows.ensures.kept.0 ∙ c.in_ok-batch.ensures.same_reference))) in
     let last_clean : HasCleanDisk last = rw same clean in
     let keeps = c.apply_rows.ensures.kept.1 in
     let mid_clean = was_clean mid last c.drop-batch.ensures.survives last_clean in
@@ -83,7 +81,7 @@ returns-in_err-commit-clause-caused g c clean =
     let begun = state g.S.Store c.in_ok-batch.batch.store.now in
     let mid = state g.S.Store c.apply_rows.new.rows.store.now in
     let last = state g.S.Store c.commit.new.self.0 in
-    let same : c.commit.new.self.0 ≡ c.store-2-1.given.0 = search rules in
+    let same : c.commit.new.self.0 ≡ c.store-2-1.given.0 = sym (c.store-2-1.given.1 (sym (c.apply_rows.ensures.kept.0 ∙ c.in_ok-batch.ensures.same_reference))) in
     let last_clean : HasCleanDisk last = rw same clean in
     let kept = c.in_ok-report.ensures.kept in
     let survives = c.commit.ensures.atomic.survives in

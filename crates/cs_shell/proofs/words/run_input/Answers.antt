@@ -5,7 +5,7 @@ use Rattle.cs_value.specs.State.{State}
 use Rattle.cs_store.specs.Store.{tables_in}
 use Rattle.cs_shell_script.specs.Runs.{Runs}
 use Rattle.cs_shell_script.specs.Meant.{LineSays}
-use Rattle.cs_shell_script.proofs.TurnLemmas.{resource_of_store}
+use Rattle.cs_shell_executor.proofs.TurnLemmas.{resource_of_store}
 use Rattle.cs_shell_script.specs.StoreRuns.{RunsScript, beginning}
 use Rattle.cs_shell.proofs.words.run_input.Goals as goal
 

@@ -1,10 +1,9 @@
 -- `session::Session::undo`: what `undo_rows` asks for, the clauses `undone`, `caused`, `transacts`.
-use Rattle.std.proofs.Common.{◌≡◌, map, rules, IfErr, refl, subst}
+use Rattle.std.proofs.Common.{◌≡◌, ap, map, refl, subst, sym, ◌∙◌}
 use Rattle.std.proofs.lemmas.Result.{err_from_is_err_and}
 use Rattle.sqlite.specs.Held.{state}
 use Rattle.sqlite.specs.State.{HasCleanDisk}
 use Rattle.cs_store.specs.Laws.{was_clean}
-use Rattle.cs_store.specs.Records.{KeepsContent, KeepsCrash}
 use Rattle.cs_store.specs.Store.{tables_in}
 use Rattle.cs_store.proofs.CrashLemmas.{begun_tables, made_tables}
 use Rattle.cs_store.proofs.TransactLemmas.{unbegun_transacts, dropped_transacts, uncommitted_transacts, committed_transacts}
@@ -27,17 +26,16 @@ pub returns-in_err-batch-clause-transacts : goal.returns-in_err-batch-clause-tra
 returns-in_err-batch-clause-transacts g c =
     let old = state g.S.Store c.args.store.now in
     let new = state g.S.Store c.begin.follows.lender-at-none in
-    let keeps : KeepsCrash old new = search rules in
-    let kept : HasCleanDisk new → KeepsContent old new = search rules in
+    let rests = rw c.in_err-batch.was at c.begin.follows.holds-at-none in
     let p = err_from_is_err_and c.from_residual.result c.from_residual.ensures.1 in
-    rw p.1 (unbegun_transacts g.S.Store g.met.S.Store.settled g.met.S.Store.stays c.args.store.now c.begin.follows.lender-at-none c.crash_law.ensures _ (UndoesInto c.args.self.now (tables_in old.now)) keeps kept)
+    rw p.1 (unbegun_transacts g.S.Store g.met.S.Store.settled g.met.S.Store.stays c.args.store.now c.begin.follows.lender-at-none c.crash_law.ensures _ (UndoesInto c.args.self.now (tables_in old.now)) rests.0 rests.1)
 
 pub returns-in_err-report-clause-transacts : goal.returns-in_err-report-clause-transacts
 returns-in_err-report-clause-transacts g c =
     let old = state g.S.Store c.args.store.now in
     let begun = state g.S.Store c.in_ok-batch.batch.store.now in
     let mid = state g.S.Store c.undo_rows.new.rows.store.now in
-    let same : c.drop-batch.new.self.0 ≡ c.store-in_err-report-1.given.0 = search rules in
+    let same : c.drop-batch.new.self.0 ≡ c.store-in_err-report-1.given.0 = sym (c.store-in_err-report-1.given.1 (sym (c.undo_rows.ensures.kept.0 ∙ c.in_ok-batch.ensures.same_reference))) in
     let p = err_from_is_err_and c.from_residual-in_err-report.result c.from_residual-in_err-report.ensures.1 in
     rw (p.1, ← same) (dropped_transacts g.S.Store g.met.S.Store.settled g.met.S.Store.stays c.args.store.now c.drop-batch.new.self.0 c.crash_law.ensures begun mid c.in_ok-batch.ensures.begun c.in_ok-batch.ensures.survives c.undo_rows.ensures.kept.1
     _ (UndoesInto c.args.self.now (tables_in old.now)) c.drop-batch.ensures.survives c.drop-batch.ensures.undone)
@@ -46,8 +44,8 @@ pub returns-in_err-commit-clause-transacts : goal.returns-in_err-commit-clause-t
 returns-in_err-commit-clause-transacts g c =
     let begun = state g.S.Store c.in_ok-batch.batch.store.now in
     let mid = state g.S.Store c.undo_rows.new.rows.store.now in
-    let same : c.commit.new.self.0 ≡ c.store-2-1.given.0 = search rules in
-    let notes : map attached_of c.as_slice.result.now ≡ c.args.self.now = search rules in
+    let same : c.commit.new.self.0 ≡ c.store-2-1.given.0 = sym (c.store-2-1.given.1 (sym (c.undo_rows.ensures.kept.0 ∙ c.in_ok-batch.ensures.same_reference))) in
+    let notes : map attached_of c.as_slice.result.now ≡ c.args.self.now = ap (map attached_of) c.as_slice.ensures ∙ c.self.view_is in
     let p = err_from_is_err_and c.from_residual-in_err-commit.result c.from_residual-in_err-commit.ensures.1 in
     rw (p.1, ← same) (uncommitted_transacts g.S.Store g.met.S.Store.settled g.met.S.Store.stays c.args.store.now c.commit.new.self.0 c.crash_law.ensures begun mid c.in_ok-batch.ensures.begun c.in_ok-batch.ensures.survives c.undo_rows.ensures.kept.1
     (UndoesInto c.args.self.now) (λ clean. rw notes at ((c.in_ok-report.ensures.undone clean).rewound)) c.commit.ensures.atomic.survives _ c.in_err-commit.ensures.undone)
@@ -56,8 +54,8 @@ pub returns-clause-transacts : goal.returns-clause-transacts
 returns-clause-transacts g c =
     let begun = state g.S.Store c.in_ok-batch.batch.store.now in
     let mid = state g.S.Store c.undo_rows.new.rows.store.now in
-    let same : c.commit.new.self.0 ≡ c.store-2-1.given.0 = search rules in
-    let notes : map attached_of c.as_slice.result.now ≡ c.args.self.now = search rules in
+    let same : c.commit.new.self.0 ≡ c.store-2-1.given.0 = sym (c.store-2-1.given.1 (sym (c.undo_rows.ensures.kept.0 ∙ c.in_ok-batch.ensures.same_reference))) in
+    let notes : map attached_of c.as_slice.result.now ≡ c.args.self.now = ap (map attached_of) c.as_slice.ensures ∙ c.self.view_is in
     rw (← same) (committed_transacts g.S.Store g.met.S.Store.settled g.met.S.Store.stays c.args.store.now c.commit.new.self.0 c.crash_law.ensures begun mid c.in_ok-batch.ensures.begun c.in_ok-batch.ensures.survives c.undo_rows.ensures.kept.1
     (UndoesInto c.args.self.now) (λ clean. rw notes at ((c.in_ok-report.ensures.undone clean).rewound)) c.commit.ensures.atomic.survives _ c.in_ok-commit.ensures.committed c.in_ok-commit.ensures.others c.in_ok-commit.ensures.left)
 
@@ -67,8 +65,8 @@ returns-clause-undone g c =
     let begun = state g.S.Store c.in_ok-batch.batch.store.now in
     let mid = state g.S.Store c.undo_rows.new.rows.store.now in
     let last = state g.S.Store c.commit.new.self.0 in
-    let same : c.commit.new.self.0 ≡ c.store-2-1.given.0 = search rules in
-    let notes : map attached_of c.as_slice.result.now ≡ c.args.self.now = search rules in
+    let same : c.commit.new.self.0 ≡ c.store-2-1.given.0 = sym (c.store-2-1.given.1 (sym (c.undo_rows.ensures.kept.0 ∙ c.in_ok-batch.ensures.same_reference))) in
+    let notes : map attached_of c.as_slice.result.now ≡ c.args.self.now = ap (map attached_of) c.as_slice.ensures ∙ c.self.view_is in
     let undone = rw notes at c.in_ok-report.ensures.undone in
     rw (← same) (made_tables old begun mid last (λ before after. Undoes c.args.self.now before c.in_ok-report.report after)
     c.in_ok-batch.ensures.begun c.undo_rows.ensures.kept.1 c.commit.ensures.atomic.survives undone c.in_ok-commit.ensures.committed)
@@ -77,8 +75,8 @@ pub returns-in_err-batch-clause-caused : goal.returns-in_err-batch-clause-caused
 returns-in_err-batch-clause-caused g c clean =
     let old = state g.S.Store c.args.store.now in
     let new = state g.S.Store c.begin.follows.lender-at-none in
-    let fails : HasCleanDisk new → IfErr c.begin.result (stores.IsCaused (BeginFails old new)) = search rules in
-    let failed : stores.IsCaused (BeginFails old new) c.in_err-batch.field-0.0 = rw c.in_err-batch.was at (fails clean) in
+    let rests = rw c.in_err-batch.was at c.begin.follows.holds-at-none in
+    let failed : stores.IsCaused (BeginFails old new) c.in_err-batch.field-0.0 = rests.2 clean in
     rows_caused_on c.from_residual.result _ _ c.in_err-batch.field-0.0 c.from_residual.ensures.1 (begin_fails _ old new) failed
 
 pub returns-in_err-report-clause-caused : goal.returns-in_err-report-clause-caused
@@ -87,12 +85,12 @@ returns-in_err-report-clause-caused g c clean =
     let begun = state g.S.Store c.in_ok-batch.batch.store.now in
     let mid = state g.S.Store c.undo_rows.new.rows.store.now in
     let last = state g.S.Store c.drop-batch.new.self.0 in
-    let same : c.drop-batch.new.self.0 ≡ c.store-in_err-report-1.given.0 = search rules in
+    let same : c.drop-batch.new.self.0 ≡ c.store-in_err-report-1.given.0 = sym (c.store-in_err-report-1.given.1 (sym (c.undo_rows.ensures.kept.0 ∙ c.in_ok-batch.ensures.same_reference))) in
     let last_clean : HasCleanDisk last = rw same clean in
     let keeps = c.undo_rows.ensures.kept.1 in
     let mid_clean = was_clean mid last c.drop-batch.ensures.survives last_clean in
     let tables = begun_tables old begun mid c.in_ok-batch.ensures.begun keeps mid_clean in
-    let notes : map attached_of c.as_slice.result.now ≡ c.args.self.now = search rules in
+    let notes : map attached_of c.as_slice.result.now ≡ c.args.self.now = ap (map attached_of) c.as_slice.ensures ∙ c.self.view_is in
     let failed = subst (λ (s : State). IsCaused (BatchFails (Writes (IsUndoWrite (map attached_of c.as_slice.result.now) s)) begun mid) c.in_err-report.field-0.0) tables
     (c.in_err-report.ensures.caused mid_clean) in
     rw (← same) (caused_on c.from_residual-in_err-report.result _ _ c.in_err-report.field-0.0 c.from_residual-in_err-report.ensures.1
@@ -104,7 +102,7 @@ returns-in_err-commit-clause-caused g c clean =
     let begun = state g.S.Store c.in_ok-batch.batch.store.now in
     let mid = state g.S.Store c.undo_rows.new.rows.store.now in
     let last = state g.S.Store c.commit.new.self.0 in
-    let same : c.commit.new.self.0 ≡ c.store-2-1.given.0 = search rules in
+    let same : c.commit.new.self.0 ≡ c.store-2-1.given.0 = sym (c.store-2-1.given.1 (sym (c.undo_rows.ensures.kept.0 ∙ c.in_ok-batch.ensures.same_reference))) in
     let last_clean : HasCleanDisk last = rw same clean in
     let kept = c.in_ok-report.ensures.kept in
     let survives = c.commit.ensures.atomic.survives in

@@ -1,7 +1,7 @@
 -- `script::RunningScript::take_all`: the clause `broken`.
 use Rattle.std.proofs.Common.{arith}
 use Rattle.cs_shell_script.specs.Progress.{running}
-use Rattle.cs_shell_script.proofs.TurnLemmas.{on_err}
+use Rattle.cs_shell_executor.proofs.TurnLemmas.{on_err}
 use Rattle.cs_shell_script.proofs.ProgressLemmas.{Breaks-more}
 use Rattle.cs_shell_script.proofs.script.RunningScript.take_all.Goals as goal
 

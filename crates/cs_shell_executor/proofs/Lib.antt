@@ -1,0 +1,9 @@
+pub mod ApplyTurnLemmas
+pub mod CommandLemmas
+pub mod Examples
+pub mod ReplyLemmas
+pub mod SeenLemmas
+pub mod SessionLemmas
+pub mod SessionTurnLemmas
+pub mod StatementLemmas
+pub mod TurnLemmas

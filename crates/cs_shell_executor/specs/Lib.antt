@@ -1,0 +1,3 @@
+pub mod ShellState
+pub mod LineAnswers
+pub mod Works

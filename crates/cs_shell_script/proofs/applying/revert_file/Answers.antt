@@ -1,8 +1,0 @@
--- `applying::revert_file`: what it ensures.
-use Rattle.cs_shell_script.proofs.applying.revert_file.Goals as goal
-
-pub returns-in-Some : goal.returns-in-Some
-returns-in-Some g c = rw c.in-Some.is c.revert_noted.ensures
-
-pub returns-in-None : goal.returns-in-None
-returns-in-None g c = rw c.in-None.is c.revert_unnoted.ensures

@@ -1,5 +1,0 @@
--- `statements::insert`: what it ensures.
-use Rattle.cs_shell_script.proofs.statements.insert.Goals as goal
-
-pub returns : goal.returns
-returns g c = rw (← c.new-row.ensures) c.edit_row.ensures
