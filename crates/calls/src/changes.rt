@@ -90,14 +90,6 @@ fn insertion(alloc: Global, number: i64) -> Result<Entry, NoMemory> {
     })
 }
 
-/// The DELETE of a row of one number.
-fn deletion(alloc: Global, number: i64) -> Result<Entry, NoMemory> {
-    Ok(Entry {
-        indirect: false,
-        change: Change::Delete(row_of(alloc, number)?),
-    })
-}
-
 /// Makes a group of two entries, and returns how many it has.
 pub(crate) fn make_group(alloc: Global) -> Result<usize, NoMemory> {
     match first_group(alloc)? {
@@ -157,7 +149,17 @@ pub(crate) fn join_read(alloc: Global) -> Result<usize, ReadError> {
 
 /// Merges the INSERT of a row and its DELETE, and returns whether nothing is left.
 pub(crate) fn merge_two(alloc: Global) -> Result<usize, NoMemory> {
-    let (first, second) = (insertion(alloc, 1)?, deletion(alloc, 1)?);
+    let mut values = Vec::new(alloc);
+    values.push(OwnedValue::Int(1))?;
+    let row = Row::new(values);
+    let first = Entry {
+        indirect: false,
+        change: Change::Insert(row.copy(alloc)?),
+    };
+    let second = Entry {
+        indirect: false,
+        change: Change::Delete(row),
+    };
     match merge(alloc, &[1], &first, &second)? {
         Merged::Vanish => Ok(1),
         _ => Ok(0),
