@@ -4,8 +4,12 @@ PYTHON ?= python3
 
 help:
 	@echo "make dist    makes a release in dist/ of what tests/run has built"
+	@echo "make edits   tries the wrong edits that tests/run leaves to a release"
 
 dist:
 	$(PYTHON) release/dist.py
 
-.PHONY: help dist
+edits:
+	$(PYTHON) release/try_edits.py
+
+.PHONY: help dist edits

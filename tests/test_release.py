@@ -393,6 +393,17 @@ class Making(unittest.TestCase):
                 dist.write_wheel(pathlib.Path("."), 0)
 
 
+class WrongEdits(unittest.TestCase):
+    """The wrong edits that a release tries can still be applied."""
+
+    def test_apply(self):
+        self.assertEqual(run(TOP / "release/try_edits.py", "--apply-only"), "")
+
+    def test_number(self):
+        edits = [*TOP.glob("crates/*/must-fail/*.edit"), *TOP.glob("release/edits/*/*.edit")]
+        self.assertLessEqual(len(edits), 60)
+
+
 @unittest.skipUnless(PYTHON, "no Python has setuptools 64 or later, and wheel")
 class Editable(unittest.TestCase):
     """An editable installation uses the repository."""

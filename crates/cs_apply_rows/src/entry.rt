@@ -29,7 +29,7 @@ use std::alloc::Global;
 use std::rc::RcStr;
 
 /// What is done about an entry.
-#[derive(Debug, Drop)]
+#[derive(Drop)]
 pub(crate) enum Settled {
     /// It is carried out: it has no conflict, or the handler chose to replace the row.
     Carried,

@@ -7,7 +7,7 @@ use crate::fault::ApplyFault;
 use cs_apply_conflicts::Choice;
 
 /// How a run ended at an entry.
-#[derive(Debug, Drop)]
+#[derive(Drop)]
 pub(crate) enum Halt {
     /// The handler chose to abort at this conflict.
     Aborted(Conflict),

@@ -29,7 +29,7 @@ use std::alloc::Global;
 use std::rc::RcStr;
 
 /// What is known after the items so far.
-#[derive(Debug, Drop)]
+#[derive(Drop)]
 pub(crate) struct Run {
     // The name of the open table, which all written keys share, and whether the table fits.
     table: RcStr,

@@ -124,7 +124,7 @@ fn pass_distinct<V: Visit>(
 }
 
 /// Entries that were visited: their number, where they end, and whether the numbers of their keys rise.
-#[derive(Clone, Copy, Debug)]
+#[derive(Clone, Copy)]
 struct EntryRun {
     count: usize,
     end: usize,

@@ -9,7 +9,7 @@ use std::alloc::Global;
 use std::marker::Model;
 
 /// Entries of one table, each with its key. Contracts see the flags of the table, and the entries.
-#[derive(Debug, Drop)]
+#[derive(Drop)]
 pub(crate) struct JoinedEntries<'a> {
     flags: &'a [u8],
     entries: Vec<Entry>,

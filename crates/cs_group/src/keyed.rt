@@ -11,7 +11,7 @@ use std::alloc::Global;
 use std::marker::Model;
 
 /// The groups of a changeset, with an index by name. Contracts see the groups.
-#[derive(Debug, Drop)]
+#[derive(Drop)]
 pub(crate) struct NamedGroups<'a> {
     changeset: &'a Changeset,
     // The name of each group's table, at its index.
@@ -71,7 +71,7 @@ fn names_of(alloc: Global, changeset: &Changeset) -> Result<IndexSet<&str>, NoMe
 }
 
 /// The entries of a group, with an index by key. Each key is made once. Contracts see the group.
-#[derive(Debug, Drop)]
+#[derive(Drop)]
 pub(crate) struct KeyedGroup<'a> {
     group: &'a Group,
     // The key of each entry, at its index.

@@ -17,7 +17,7 @@ use cs_shell_tokens::{
 use std::alloc::Global;
 
 /// The options that a line sets.
-#[derive(Clone, Copy, Debug)]
+#[derive(Clone, Copy)]
 struct Settings {
     on_data: Option<Choice>,
     on_notfound: Option<Choice>,

@@ -14,7 +14,7 @@ use cs_value::OwnedValue;
 use std::alloc::Global;
 
 /// A column of a new table, and whether it refuses NULL.
-#[derive(Debug, Drop)]
+#[derive(Drop)]
 struct NewColumn {
     name: String,
     refuses: bool,

@@ -1,4 +1,4 @@
-//! The bytes that a row is stored as.
+//! The row that stored bytes are.
 ghost use Rattle.std.specs.Prelude.{◌≡◌, ◌≢◌, ◌⊎◌, List, map, IfOk, IfErr};
 ghost use Rattle.cs_value.specs.declared.value.OwnedValue.{OwnedValue};
 ghost use Rattle.cs_value.specs.declared.value.OwnedField.TheVariants.{Defined};

@@ -12,7 +12,7 @@ const BLOB_LEN: usize = 100_000_000;
 const BLOB_START: &[u8] = b"\x04\xaf\xd7\xc2\0";
 
 /// Which entries a file has.
-#[derive(Clone, Copy, Debug)]
+#[derive(Clone, Copy)]
 pub(crate) enum Shape {
     /// An INSERT, a DELETE and an UPDATE in turn.
     Mix,
@@ -23,7 +23,7 @@ pub(crate) enum Shape {
 }
 
 /// What an entry does to its row.
-#[derive(Clone, Copy, Debug)]
+#[derive(Clone, Copy)]
 pub(crate) enum Change {
     Insert,
     Delete,

@@ -21,7 +21,7 @@ use itoa::Buffer;
 use std::io::Write;
 
 /// What a statement says of columns and their values.
-#[derive(Clone, Copy, Debug)]
+#[derive(Clone, Copy)]
 enum Terms {
     /// An assignment, in SET.
     Assignments,

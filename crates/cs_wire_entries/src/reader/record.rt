@@ -14,7 +14,7 @@ use crate::spelled::front_field;
 use cs_value::{Field, Value, field_read};
 
 /// What a record can have in a column.
-#[derive(Clone, Copy, Debug)]
+#[derive(Clone, Copy)]
 pub(crate) enum Want {
     /// A value other than NULL.
     KeyValue,
@@ -57,7 +57,7 @@ impl Want {
 }
 
 /// The remaining columns of a record, with what each of their fields may be.
-#[derive(Clone, Copy, Debug)]
+#[derive(Clone, Copy)]
 pub(crate) enum Columns<'a> {
     /// Those of a row.
     Row,
