@@ -1,0 +1,4 @@
+pub mod Faults
+pub mod Kinds
+pub mod Spelling
+pub mod Reading
