@@ -1,9 +1,0 @@
--- `kind::Kind::of_number`: what it ensures.
-use Rattle.std.proofs.Common.{◌∙◌, arith}
-use Rattle.cs_calls_messages.specs.Kinds.{kinds}
-use Rattle.cs_calls_messages.proofs.KindLemmas.{kind_at-index}
-use Rattle.cs_calls_messages.proofs.kind.Kind.of_number.Goals as goal
-
-pub returns-in-Some : goal.returns-in-Some
-unfolding kinds
-returns-in-Some c = c.at.ensures ∙ kind_at-index c.args.number c.from.result (omega (arith, c.in-Some.ensures.0)) (omega (arith, c.from.ensures, c.in-Some.ensures.1))

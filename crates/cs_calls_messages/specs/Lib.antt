@@ -1,4 +1,0 @@
-pub mod Faults
-pub mod Kinds
-pub mod Spelling
-pub mod Reading

@@ -1,0 +1,4 @@
+pub mod Steps
+pub mod Exact
+pub mod PartLemmas
+pub mod Codecs

@@ -1,0 +1,76 @@
+//! The lists of calls: columns and choices.
+ghost use Rattle.std.specs.Prelude.{◌≡◌};
+
+use cs_apply_rows::Choice;
+use cs_value::Text;
+use std::marker::Model;
+
+/// A column of a table that is declared.
+#[derive(Drop)]
+pub struct Column {
+    pub name: Text,
+    pub is_key: bool,
+    pub refuses_null: bool,
+}
+
+/// The columns of a table that is declared, in their order. Contracts see their list.
+#[derive(Drop)]
+pub struct Columns {
+    columns: Vec<Column>,
+}
+
+impl Model for Columns {
+    ghost use Rattle.std.specs.Prelude.{List};
+    ghost use Rattle.cs_calls_parts.specs.declared.lists.Column.{Column};
+
+    ghost Value = { List Column };
+
+    ghost view = { λ c. c.columns.items };
+}
+
+impl Columns {
+    /// Returns the list of some columns. It allocates nothing.
+    pub fn new(columns: Vec<Column>) -> Columns
+        ensures { result ≡ columns.items }
+    {
+        Columns { columns }
+    }
+
+    /// Returns the columns.
+    pub fn as_slice(&self) -> &[Column]
+        ensures { result.now ≡ self.now }
+    {
+        &self.columns
+    }
+}
+
+/// Choices for conflicts, in their order. Contracts see their list.
+#[derive(Drop)]
+pub struct Choices {
+    choices: Vec<Choice>,
+}
+
+impl Model for Choices {
+    ghost use Rattle.std.specs.Prelude.{List};
+    ghost use Rattle.cs_apply_conflicts.specs.declared.conflict.Choice.{Choice};
+
+    ghost Value = { List Choice };
+
+    ghost view = { λ c. c.choices.items };
+}
+
+impl Choices {
+    /// Returns the list of some choices. It allocates nothing.
+    pub fn new(choices: Vec<Choice>) -> Choices
+        ensures { result ≡ choices.items }
+    {
+        Choices { choices }
+    }
+
+    /// Returns the choices.
+    pub fn as_slice(&self) -> &[Choice]
+        ensures { result.now ≡ self.now }
+    {
+        &self.choices
+    }
+}

@@ -1,0 +1,72 @@
+//! What calls have lists of.
+ghost use Rattle.std.specs.Prelude.{◌≡◌, ◌++◌, ℕ, List, Result, length, take, OnOk, OnErr};
+ghost use Rattle.cs_value.specs.Spelling.{value_bytes};
+ghost use Rattle.cs_calls_parts.specs.declared.fault.Misread.{Misread as MisreadData};
+ghost use Rattle.cs_calls_parts.specs.Reading.{Gives, value_of, column_of, choice_of};
+ghost use Rattle.cs_calls_parts.specs.Spelling.{column_bytes, choice_bytes};
+
+use crate::fault::Unread;
+use crate::lists::Column;
+use crate::spell::{write_choice, write_column, write_value};
+use crate::step::{read_choice, read_column, read_value};
+use cs_apply_rows::Choice;
+use cs_value::{NoMemory, OwnedValue};
+use std::alloc::Global;
+
+/// A part of which a call can have a list.
+pub trait Part: Drop {
+    ghost part_of: { List ℕ → Result (Self × List ℕ) MisreadData };
+
+    ghost part_bytes: { Self → List ℕ };
+
+    /// Returns the part at the front of the bytes, and the bytes after it.
+    fn read(alloc: Global, bytes: &[u8]) -> Result<(Self, &[u8]), Unread>
+        ensures { Gives (λ r. (r.0, r.1.now)) result (part_of bytes.now) };
+
+    /// Appends the bytes of the part. [`NoMemory`] can leave some of them after the previous bytes.
+    fn write(&self, out: &mut Vec<u8>) -> Result<(), NoMemory>
+        ensures ok { OnOk result (out.new.items ≡ out.old.items ++ part_bytes self.now) }
+        ensures err { OnErr result (take (length out.old.items) out.new.items ≡ out.old.items) };
+}
+
+impl Part for OwnedValue {
+    ghost part_of = { value_of };
+
+    ghost part_bytes = { value_bytes };
+
+    fn read(alloc: Global, bytes: &[u8]) -> Result<(OwnedValue, &[u8]), Unread> {
+        read_value(alloc, bytes)
+    }
+
+    fn write(&self, out: &mut Vec<u8>) -> Result<(), NoMemory> {
+        write_value(out, self)
+    }
+}
+
+impl Part for Column {
+    ghost part_of = { column_of };
+
+    ghost part_bytes = { column_bytes };
+
+    fn read(alloc: Global, bytes: &[u8]) -> Result<(Column, &[u8]), Unread> {
+        read_column(alloc, bytes)
+    }
+
+    fn write(&self, out: &mut Vec<u8>) -> Result<(), NoMemory> {
+        write_column(out, self)
+    }
+}
+
+impl Part for Choice {
+    ghost part_of = { choice_of };
+
+    ghost part_bytes = { choice_bytes };
+
+    fn read(_alloc: Global, bytes: &[u8]) -> Result<(Choice, &[u8]), Unread> {
+        read_choice(bytes)
+    }
+
+    fn write(&self, out: &mut Vec<u8>) -> Result<(), NoMemory> {
+        write_choice(out, *self)
+    }
+}

@@ -1,0 +1,156 @@
+//! The parts of calls, written one after another. Where memory runs out, some bytes of a part can be left after the
+//! previous ones.
+ghost use Rattle.std.specs.Prelude.{◌≡◌, ◌≤◌, ◌++◌, length, OnOk, OnErr, IfSome, take};
+ghost use Rattle.std.specs.List.{flat_map};
+ghost use Rattle.cs_value.specs.declared.TheConstants.{MAX_CONTENT_LEN};
+ghost use Rattle.cs_value.specs.Spelling.{counted, value_bytes};
+ghost use Rattle.cs_calls_parts.specs.Spelling.{row_bytes, option_bytes, column_bytes, list_bytes, choice_bytes};
+ghost use Rattle.cs_calls_parts.specs.Spelling.{noop_bytes, policy_bytes, mark_of};
+
+use crate::lists::Column;
+use crate::part::Part;
+use cs_apply_rows::{Choice, Noop, Policy};
+use cs_value::{Bytes, Field, NoMemory, OwnedValue, Row, Text, field_write, varint_write};
+
+/// Appends a count, and the bytes that it is of.
+#[tactic(auto, unfolding(cs_value::specs::Spelling::counted))]
+fn write_counted(out: &mut Vec<u8>, content: &[u8]) -> Result<(), NoMemory>
+    requires { length content.now ≤ MAX_CONTENT_LEN }
+    ensures ok { OnOk result (out.new.items ≡ out.old.items ++ counted content.now) }
+    ensures err { OnErr result (take (length out.old.items) out.new.items ≡ out.old.items) }
+{
+    varint_write(out, content.len() as u32)?;
+    out.extend_from_slice(content)?;
+    Ok(())
+}
+
+/// Appends a text.
+pub fn write_text(out: &mut Vec<u8>, text: &Text) -> Result<(), NoMemory>
+    ensures ok { OnOk result (out.new.items ≡ out.old.items ++ counted text.now) }
+    ensures err { OnErr result (take (length out.old.items) out.new.items ≡ out.old.items) }
+{
+    write_counted(out, text.as_str().as_bytes())
+}
+
+/// Appends a file.
+pub fn write_file(out: &mut Vec<u8>, file: &Bytes) -> Result<(), NoMemory>
+    ensures ok { OnOk result (out.new.items ≡ out.old.items ++ counted file.now) }
+    ensures err { OnErr result (take (length out.old.items) out.new.items ≡ out.old.items) }
+{
+    write_counted(out, file.as_slice())
+}
+
+/// Appends a value.
+#[tactic(auto, unfolding(cs_value::specs::Spelling::field_bytes))]
+pub fn write_value(out: &mut Vec<u8>, value: &OwnedValue) -> Result<(), NoMemory>
+    ensures ok { OnOk result (out.new.items ≡ out.old.items ++ value_bytes value.now) }
+    ensures err { OnErr result (take (length out.old.items) out.new.items ≡ out.old.items) }
+{
+    field_write(out, &Field::Defined(value.as_value()))
+}
+
+/// Appends parts, one after another.
+fn write_parts<T: Part>(out: &mut Vec<u8>, parts: &[T]) -> Result<(), NoMemory>
+    ensures ok { OnOk result (out.new.items ≡ out.old.items ++ flat_map T.part_bytes parts.now) }
+    ensures err { OnErr result (take (length out.old.items) out.new.items ≡ out.old.items) }
+{
+    for part in parts {
+        part.write(out)?;
+    }
+    Ok(())
+}
+
+/// Appends parts after their count.
+#[tactic(auto, unfolding(crate::specs::Spelling::list_bytes))]
+pub fn write_list<T: Part>(out: &mut Vec<u8>, parts: &[T]) -> Result<(), NoMemory>
+    requires { length parts.now ≤ MAX_CONTENT_LEN }
+    ensures ok { OnOk result (out.new.items ≡ out.old.items ++ list_bytes T.part_bytes parts.now) }
+    ensures err { OnErr result (take (length out.old.items) out.new.items ≡ out.old.items) }
+{
+    varint_write(out, parts.len() as u32)?;
+    write_parts(out, parts)
+}
+
+/// Appends the values of a row or a key.
+pub fn write_row(out: &mut Vec<u8>, row: &Row) -> Result<(), NoMemory>
+    requires { length row.now ≤ MAX_CONTENT_LEN }
+    ensures ok { OnOk result (out.new.items ≡ out.old.items ++ row_bytes row.now) }
+    ensures err { OnErr result (take (length out.old.items) out.new.items ≡ out.old.items) }
+{
+    write_list(out, row.values())
+}
+
+/// Appends a key, or that there is none.
+#[tactic(auto, unfolding(crate::specs::Spelling::option_bytes))]
+pub fn write_option(out: &mut Vec<u8>, key: &Option<Row>) -> Result<(), NoMemory>
+    requires { IfSome key.now (λ k. length k ≤ MAX_CONTENT_LEN) }
+    ensures ok { OnOk result (out.new.items ≡ out.old.items ++ option_bytes key.now) }
+    ensures err { OnErr result (take (length out.old.items) out.new.items ≡ out.old.items) }
+{
+    match key {
+        Some(key) => {
+            out.push(1)?;
+            write_row(out, key)
+        }
+        None => Ok(out.push(0)?),
+    }
+}
+
+/// Returns the mark of a column.
+#[tactic(auto, unfolding(crate::specs::Spelling::mark_of))]
+fn mark(column: &Column) -> u8
+    ensures { result ≡ mark_of column.now.is_key column.now.refuses_null }
+{
+    match (column.is_key, column.refuses_null) {
+        (false, false) => 0,
+        (true, false) => 1,
+        (false, true) => 2,
+        (true, true) => 3,
+    }
+}
+
+/// Appends a column.
+#[tactic(auto, unfolding(crate::specs::Spelling::column_bytes))]
+pub fn write_column(out: &mut Vec<u8>, column: &Column) -> Result<(), NoMemory>
+    ensures ok { OnOk result (out.new.items ≡ out.old.items ++ column_bytes column.now) }
+    ensures err { OnErr result (take (length out.old.items) out.new.items ≡ out.old.items) }
+{
+    write_text(out, &column.name)?;
+    out.push(mark(column))?;
+    Ok(())
+}
+
+/// Appends a choice.
+#[tactic(auto, unfolding(crate::specs::Spelling::choice_bytes))]
+pub fn write_choice(out: &mut Vec<u8>, choice: Choice) -> Result<(), NoMemory>
+    ensures ok { OnOk result (out.new.items ≡ out.old.items ++ choice_bytes choice) }
+    ensures err { OnErr result (take (length out.old.items) out.new.items ≡ out.old.items) }
+{
+    out.push(choice.number())?;
+    Ok(())
+}
+
+/// Appends what is done about entries that change nothing.
+#[tactic(auto, unfolding(crate::specs::Spelling::noop_bytes))]
+pub fn write_noop(out: &mut Vec<u8>, noop: Noop) -> Result<(), NoMemory>
+    ensures ok { OnOk result (out.new.items ≡ out.old.items ++ noop_bytes noop) }
+    ensures err { OnErr result (take (length out.old.items) out.new.items ≡ out.old.items) }
+{
+    match noop {
+        Noop::Report => out.push(0)?,
+        Noop::Ignore => out.push(1)?,
+    }
+    Ok(())
+}
+
+/// Appends a choice for each kind of conflict.
+#[tactic(auto, unfolding(crate::specs::Spelling::policy_bytes))]
+pub fn write_policy(out: &mut Vec<u8>, policy: &Policy) -> Result<(), NoMemory>
+    ensures ok { OnOk result (out.new.items ≡ out.old.items ++ policy_bytes policy.now) }
+    ensures err { OnErr result (take (length out.old.items) out.new.items ≡ out.old.items) }
+{
+    write_choice(out, policy.on_data)?;
+    write_choice(out, policy.on_notfound)?;
+    write_choice(out, policy.on_conflict)?;
+    write_choice(out, policy.on_constraint)
+}

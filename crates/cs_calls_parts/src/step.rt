@@ -1,0 +1,220 @@
+//! The parts of calls, read from the left.
+ghost use Rattle.std.specs.Prelude.{◌≡◌, ◌≤◌, ◌+◌, ◌<◌, ℕ, List, length, map, Result, IfOk, Err};
+ghost use Rattle.cs_value.specs.declared.TheConstants.{MAX_CONTENT_LEN};
+ghost use Rattle.cs_value.specs.declared.refusal.OrNoMemory.TheVariants.{Fault as OfFault};
+ghost use Rattle.cs_calls_parts.specs.declared.fault.Misread.{Misread as MisreadData};
+ghost use Rattle.cs_calls_parts.specs.Reading.{Gives, misread, field_misread, number_of, counted_of, text_of, value_of};
+ghost use Rattle.cs_calls_parts.specs.Reading.{parts_at, list_of, row_of, byte_of, option_after, option_of, column_of};
+ghost use Rattle.cs_calls_parts.specs.Reading.{choice_of, noop_of, policy_of};
+
+use crate::fault::{CallFaultKind, Misread, Unread};
+use crate::lists::Column;
+use crate::part::Part;
+use cs_apply_rows::{Choice, Noop, Policy};
+use cs_value::{
+    Bytes, Field, FieldFault, FieldFaultKind, OrNoMemory, OwnedValue, Row, Text, field_read,
+    varint_read,
+};
+use std::alloc::Global;
+use std::str;
+
+/// Returns that a part cannot be read, from so many bytes before the end.
+pub fn refuse<T: Drop>(kind: CallFaultKind, left: usize) -> Result<T, Unread>
+    ensures { result ≡ Err (OfFault (misread kind left)) }
+{
+    Err(OrNoMemory::Fault(Misread { kind, left }))
+}
+
+/// Returns that no field, or no count, is at the front of the bytes.
+fn field_fault<T: Drop>(bytes: &[u8], fault: FieldFault) -> Result<T, Unread>
+    ensures { result ≡ Err (OfFault (field_misread bytes.now fault)) }
+{
+    Err(OrNoMemory::Fault(Misread {
+        kind: CallFaultKind::Field(fault.kind),
+        left: bytes.len().saturating_sub(fault.place),
+    }))
+}
+
+/// Returns the count at the front, and the bytes after it.
+pub fn read_number(bytes: &[u8]) -> Result<(u32, &[u8]), Unread>
+    ensures exact { Gives (λ r. (r.0, r.1.now)) result (number_of bytes.now) }
+    ensures small { IfOk result (λ r. r.0 ≤ MAX_CONTENT_LEN) }
+    ensures within { IfOk result (λ r. length r.1.now ≤ length bytes.now) }
+{
+    match varint_read(bytes) {
+        Ok((number, used)) => {
+            let (_, rest) = bytes.split_at(used);
+            Ok((number, rest))
+        }
+        Err(fault) => field_fault(bytes, fault),
+    }
+}
+
+/// Returns the counted bytes at the front, and those after them.
+#[tactic(auto, unfolding(crate::specs::Reading::counted_of))]
+fn read_counted(bytes: &[u8]) -> Result<(&[u8], &[u8]), Unread>
+    ensures exact { Gives (λ r. (r.0.now, r.1.now)) result (counted_of bytes.now) }
+    ensures small { IfOk result (λ r. length r.0.now ≤ MAX_CONTENT_LEN) }
+    ensures within { IfOk result (λ r. length r.0.now + length r.1.now ≤ length bytes.now) }
+{
+    let (count, rest) = read_number(bytes)?;
+    let count = count as usize;
+    if rest.len() < count {
+        return refuse(CallFaultKind::Field(FieldFaultKind::Truncated), 0);
+    }
+    Ok(rest.split_at(count))
+}
+
+/// Returns the bytes of a file at the front, after their count.
+pub fn read_file(alloc: Global, bytes: &[u8]) -> Result<(Bytes, &[u8]), Unread>
+    ensures { Gives (λ r. (r.0, r.1.now)) result (counted_of bytes.now) }
+{
+    let (content, rest) = read_counted(bytes)?;
+    Ok((Bytes::new(Vec::from_slice(alloc, content)?), rest))
+}
+
+/// Returns the text at the front, after its count.
+#[tactic(auto, unfolding(crate::specs::Reading::text_of))]
+pub fn read_text(alloc: Global, bytes: &[u8]) -> Result<(Text, &[u8]), Unread>
+    ensures { Gives (λ r. (r.0, r.1.now)) result (text_of bytes.now) }
+{
+    let (content, rest) = read_counted(bytes)?;
+    match str::from_utf8(content) {
+        Ok(text) => Ok((Text::new(String::from_str(alloc, text)?), rest)),
+        Err(_) => refuse(
+            CallFaultKind::Field(FieldFaultKind::BadText),
+            content.len() + rest.len(),
+        ),
+    }
+}
+
+/// Returns the value at the front.
+pub fn read_value(alloc: Global, bytes: &[u8]) -> Result<(OwnedValue, &[u8]), Unread>
+    ensures { Gives (λ r. (r.0, r.1.now)) result (value_of bytes.now) }
+{
+    match field_read(bytes) {
+        Ok((Field::Defined(value), used)) => {
+            let (_, rest) = bytes.split_at(used);
+            Ok((value.to_owned(alloc)?, rest))
+        }
+        Ok((Field::Undefined, _)) => refuse(CallFaultKind::Undefined, bytes.len()),
+        Err(fault) => field_fault(bytes, fault),
+    }
+}
+
+/// Returns so many parts.
+fn read_parts<T: Part>(alloc: Global, count: u32, bytes: &[u8]) -> Result<(Vec<T>, &[u8]), Unread>
+    ensures { Gives (λ r. (r.0.items, r.1.now)) result (parts_at T.part_of count bytes.now) }
+{
+    let mut parts = Vec::new(alloc);
+    let mut rest = bytes;
+    for _ in 0..count {
+        let (part, after) = T::read(alloc, rest)?;
+        parts.push(part)?;
+        rest = after;
+    }
+    Ok((parts, rest))
+}
+
+/// Returns the parts at the front, after their count.
+#[tactic(auto, unfolding(crate::specs::Reading::list_of))]
+pub fn read_list<T: Part>(alloc: Global, bytes: &[u8]) -> Result<(Vec<T>, &[u8]), Unread>
+    ensures { Gives (λ r. (r.0.items, r.1.now)) result (list_of T.part_of bytes.now) }
+{
+    let (count, rest) = read_number(bytes)?;
+    read_parts(alloc, count, rest)
+}
+
+/// Returns the values at the front, after their count.
+pub fn read_row(alloc: Global, bytes: &[u8]) -> Result<(Row, &[u8]), Unread>
+    ensures { Gives (λ r. (r.0, r.1.now)) result (row_of bytes.now) }
+{
+    let (values, rest) = read_list(alloc, bytes)?;
+    Ok((Row::new(values), rest))
+}
+
+/// Returns the byte at the front, which has to be below a limit.
+#[tactic(auto, unfolding(crate::specs::Reading::byte_of))]
+fn read_byte(limit: u8, bytes: &[u8]) -> Result<(u8, &[u8]), Unread>
+    ensures exact { Gives (λ r. (r.0, r.1.now)) result (byte_of limit bytes.now) }
+    ensures small { IfOk result (λ r. r.0 < limit) }
+{
+    match bytes {
+        [] => refuse(CallFaultKind::Field(FieldFaultKind::Truncated), 0),
+        [byte, rest @ ..] if *byte < limit => Ok((*byte, rest)),
+        _ => refuse(CallFaultKind::BadByte, bytes.len()),
+    }
+}
+
+/// Returns the key at the front, after the byte 1, or none after the byte 0.
+#[tactic(auto, unfolding(crate::specs::Reading::option_of, crate::specs::Reading::option_after))]
+pub fn read_option(alloc: Global, bytes: &[u8]) -> Result<(Option<Row>, &[u8]), Unread>
+    ensures { Gives (λ r. (r.0, r.1.now)) result (option_of bytes.now) }
+{
+    let (mark, rest) = read_byte(2, bytes)?;
+    if mark == 0 {
+        return Ok((None, rest));
+    }
+    let (row, rest) = read_row(alloc, rest)?;
+    Ok((Some(row), rest))
+}
+
+/// Returns the column at the front.
+#[tactic(auto, unfolding(crate::specs::Reading::column_of))]
+pub fn read_column(alloc: Global, bytes: &[u8]) -> Result<(Column, &[u8]), Unread>
+    ensures { Gives (λ r. (r.0, r.1.now)) result (column_of bytes.now) }
+{
+    let (name, rest) = read_text(alloc, bytes)?;
+    let (mark, rest) = read_byte(4, rest)?;
+    let column = Column {
+        name,
+        is_key: mark % 2 == 1,
+        refuses_null: 1 < mark,
+    };
+    Ok((column, rest))
+}
+
+/// Returns the choice at the front.
+#[tactic(auto, unfolding(crate::specs::Reading::choice_of))]
+pub fn read_choice(bytes: &[u8]) -> Result<(Choice, &[u8]), Unread>
+    ensures { Gives (λ r. (r.0, r.1.now)) result (choice_of bytes.now) }
+{
+    let (number, rest) = read_byte(3, bytes)?;
+    let choice = match number {
+        0 => Choice::Omit,
+        1 => Choice::Replace,
+        _ => Choice::Abort,
+    };
+    Ok((choice, rest))
+}
+
+/// Returns at the front what is done about entries that change nothing.
+#[tactic(auto, unfolding(crate::specs::Reading::noop_of))]
+pub fn read_noop(bytes: &[u8]) -> Result<(Noop, &[u8]), Unread>
+    ensures { Gives (λ r. (r.0, r.1.now)) result (noop_of bytes.now) }
+{
+    let (number, rest) = read_byte(2, bytes)?;
+    let noop = match number {
+        0 => Noop::Report,
+        _ => Noop::Ignore,
+    };
+    Ok((noop, rest))
+}
+
+/// Returns the choices at the front, one for each kind of conflict.
+#[tactic(auto, unfolding(crate::specs::Reading::policy_of))]
+pub fn read_policy(bytes: &[u8]) -> Result<(Policy, &[u8]), Unread>
+    ensures { Gives (λ r. (r.0, r.1.now)) result (policy_of bytes.now) }
+{
+    let (on_data, rest) = read_choice(bytes)?;
+    let (on_notfound, rest) = read_choice(rest)?;
+    let (on_conflict, rest) = read_choice(rest)?;
+    let (on_constraint, rest) = read_choice(rest)?;
+    let policy = Policy {
+        on_data,
+        on_notfound,
+        on_conflict,
+        on_constraint,
+    };
+    Ok((policy, rest))
+}
