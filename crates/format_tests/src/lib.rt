@@ -1,8 +1,8 @@
 //! Tests of the public calls on values, changesets and files: of what no contract and no line of a script says.
 //!
 //! `values` has numbers, texts, rows and keys, `entries` the items of a file and net changes, `files` printed texts,
-//! `faults` and `refusals` the numbers, names and texts of faults, and `calling` the callers that `CALLING.md` of
-//! `cs_wire` and of `cs_group` shows. No crate with SQL is linked.
+//! `faults` and `refusals` the numbers, names and texts of faults, `requests` calls of stores, and `calling` the
+//! callers that `CALLING.md` of `cs_wire` and of `cs_group` shows. No crate with SQL is linked.
 #![tactic(auto)]
 
 #[cfg(test)]
@@ -15,6 +15,8 @@ mod faults;
 mod files;
 #[cfg(test)]
 mod refusals;
+#[cfg(test)]
+mod requests;
 #[cfg(test)]
 mod values;
 
