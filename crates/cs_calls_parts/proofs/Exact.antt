@@ -11,7 +11,7 @@ use Rattle.cs_value.specs.declared.value.Field.{Field}
 use Rattle.cs_value.specs.declared.value.OwnedValue.{OwnedValue}
 use Rattle.cs_value.specs.declared.value.OwnedField.{OwnedField}
 use Rattle.cs_value.specs.declared.value.OwnedField.TheVariants.{Undefined, Defined}
-use Rattle.cs_calls_parts.specs.declared.fault.CallFaultKind.TheVariants.{Field as OfField, Undefined as UndefinedValue}
+use Rattle.cs_calls_parts.specs.declared.fault.CallFaultKind.TheVariants.{Field as OfField, UndefinedField as UndefinedValue}
 use Rattle.cs_calls_parts.specs.Reading.{misread, field_misread, number_after, number_of, value_from, value_after, value_of, counted_of, text_of}
 use Rattle.cs_value.specs.Value.{AreBytes, IsField, field_of}
 use Rattle.cs_value.specs.Varint.{varint}

@@ -1,4 +1,4 @@
--- What is read of bytes, part by part from the left: a call, or the first part that cannot be read.
+-- What is read of bytes, part by part from the left: a part and the bytes after it, or the first fault.
 use Rattle.std.specs.Prelude.{◌≡◌, ℕ, zero, suc, ◌+◌, ◌-◌, ◌%◌, ◌==◌, nat_lt, if◌then◌else◌, List, [], ◌∷◌, length}
 use Rattle.std.specs.Prelude.{take, drop, Option, None, Some, Result, Ok, Err}
 use Rattle.std.specs.Str.{is_utf8}
@@ -17,7 +17,7 @@ use Rattle.cs_apply_conflicts.specs.declared.conflict.Noop.TheVariants.{Report, 
 use Rattle.cs_apply_rows.specs.declared.policy.Policy.{Policy}
 use Rattle.cs_calls_parts.specs.declared.fault.CallFault.{CallFault}
 use Rattle.cs_calls_parts.specs.declared.fault.CallFaultKind.{CallFaultKind}
-use Rattle.cs_calls_parts.specs.declared.fault.CallFaultKind.TheVariants.{Field, Undefined as UndefinedValue, BadByte}
+use Rattle.cs_calls_parts.specs.declared.fault.CallFaultKind.TheVariants.{Field, UndefinedField as UndefinedValue, BadByte}
 use Rattle.cs_calls_parts.specs.declared.fault.Misread.{Misread}
 use Rattle.cs_calls_parts.specs.declared.lists.Column.{Column}
 

@@ -1,6 +1,6 @@
 //! Why bytes are no call.
 ghost use Rattle.std.specs.Prelude.{◌≡◌, ◌-◌, length};
-ghost use Rattle.cs_calls_parts.specs.Faults.{code_of, name_of};
+ghost use Rattle.cs_calls_parts.specs.Faults.{code_of, class_of, name_of};
 
 use cs_value::{Fault, FieldFaultKind, OrNoMemory};
 use thiserror::Error;
@@ -8,12 +8,12 @@ use thiserror::Error;
 /// Why bytes are no call.
 #[derive(Clone, Copy, Debug, PartialEq, Eq, Error)]
 pub enum CallFaultKind {
-    /// They end inside a part, or hold no count, text or value where one has to be.
+    /// A count, a text or a value cannot be read, or the bytes end inside the call.
     #[error("{0}")]
     Field(FieldFaultKind),
     /// A value is undefined.
     #[error("a value is undefined")]
-    Undefined,
+    UndefinedField,
     /// A byte has none of the numbers that its place allows.
     #[error("a byte is out of range")]
     BadByte,
@@ -26,26 +26,26 @@ pub enum CallFaultKind {
 }
 
 impl CallFaultKind {
-    /// Returns the number of this fault among the faults of the product.
+    /// Returns the number of this fault. A value that is undefined has the number that it has in a changeset file.
     pub fn code(self) -> u8
         ensures { result ≡ code_of self }
     {
         match self {
             CallFaultKind::Field(kind) => kind.code(),
-            CallFaultKind::Undefined => 70,
-            CallFaultKind::BadByte => 71,
-            CallFaultKind::UnknownCall => 72,
-            CallFaultKind::ExtraBytes => 73,
+            CallFaultKind::UndefinedField => 15,
+            CallFaultKind::BadByte => 90,
+            CallFaultKind::UnknownCall => 91,
+            CallFaultKind::ExtraBytes => 92,
         }
     }
 
-    /// Returns the name that answers have.
+    /// Returns the name that goes with the number.
     pub fn name(self) -> &'static str
         ensures { result.now ≡ name_of self }
     {
         match self {
             CallFaultKind::Field(kind) => kind.name(),
-            CallFaultKind::Undefined => "Undefined",
+            CallFaultKind::UndefinedField => "UndefinedField",
             CallFaultKind::BadByte => "BadByte",
             CallFaultKind::UnknownCall => "UnknownCall",
             CallFaultKind::ExtraBytes => "ExtraBytes",
@@ -53,7 +53,8 @@ impl CallFaultKind {
     }
 }
 
-/// A fault, and its byte offset in the call: that of the first part that cannot be read.
+/// A fault, and its byte offset in the call: where the first part that cannot be read begins, or the place in it that
+/// `docs/CALLS.md` says.
 #[derive(Clone, Copy, Debug, PartialEq, Eq, Error)]
 #[error("{kind} at byte {place}")]
 pub struct CallFault {
@@ -64,7 +65,7 @@ pub struct CallFault {
 impl Fault for CallFault {
     ghost code_of = { λ fault. code_of fault.kind };
 
-    ghost class_of = { λ _. 21 };
+    ghost class_of = { λ fault. class_of fault.kind };
 
     ghost name_of = { λ fault. name_of fault.kind };
 
@@ -73,7 +74,7 @@ impl Fault for CallFault {
     }
 
     fn class(&self) -> u8 {
-        21
+        11
     }
 
     fn name(&self) -> &'static str {

@@ -3,7 +3,7 @@
 //! ```rust
 //! let (name, rest) = read_text(alloc, b"\x01t\x02")?;
 //! assert_eq!(rt; name.as_str(), "t");
-//! let (limit, rest) = read_number(rest)?;
+//! let (limit, rest) = read_count(rest)?;
 //! assert!(rt; limit == 2 && rest.is_empty());
 //! ```
 //!
@@ -21,9 +21,9 @@ pub use fault::{CallError, CallFault, CallFaultKind, Misread, Unread};
 pub use lists::{Choices, Column, Columns};
 pub use part::Part;
 pub use spell::{
-    write_file, write_list, write_noop, write_option, write_policy, write_row, write_text,
+    write_file, write_key_or_none, write_list, write_noop, write_policy, write_row, write_text,
 };
 pub use step::{
-    read_file, read_list, read_noop, read_number, read_option, read_policy, read_row, read_text,
-    refuse,
+    read_count, read_file, read_key_or_none, read_list, read_noop, read_policy, read_row,
+    read_text, refuse,
 };

@@ -9,7 +9,9 @@ use std::marker::Model;
 #[derive(Drop)]
 pub struct Column {
     pub name: Text,
+    /// Whether it is a column of the primary key.
     pub is_key: bool,
+    /// Whether it is declared NOT NULL. Columns of the key refuse NULL anyway.
     pub refuses_null: bool,
 }
 

@@ -1,5 +1,5 @@
-//! The parts of calls, written one after another. Where memory runs out, some bytes of a part can be left after the
-//! previous ones.
+//! The parts of calls, written one after another. If memory runs out, some bytes of a part can be left after the previous
+//! ones: a caller that wants none cuts the vector to its length before.
 ghost use Rattle.std.specs.Prelude.{◌≡◌, ◌≤◌, ◌++◌, length, OnOk, OnErr, IfSome, take};
 ghost use Rattle.std.specs.List.{flat_map};
 ghost use Rattle.cs_value.specs.declared.TheConstants.{MAX_CONTENT_LEN};
@@ -42,7 +42,7 @@ pub fn write_file(out: &mut Vec<u8>, file: &Bytes) -> Result<(), NoMemory>
 
 /// Appends a value.
 #[tactic(auto, unfolding(cs_value::specs::Spelling::field_bytes))]
-pub fn write_value(out: &mut Vec<u8>, value: &OwnedValue) -> Result<(), NoMemory>
+pub(crate) fn write_value(out: &mut Vec<u8>, value: &OwnedValue) -> Result<(), NoMemory>
     ensures ok { OnOk result (out.new.items ≡ out.old.items ++ value_bytes value.now) }
     ensures err { OnErr result (take (length out.old.items) out.new.items ≡ out.old.items) }
 {
@@ -60,7 +60,7 @@ fn write_parts<T: Part>(out: &mut Vec<u8>, parts: &[T]) -> Result<(), NoMemory>
     Ok(())
 }
 
-/// Appends parts after their count.
+/// Appends parts after their count. There are at most 2147483647.
 #[tactic(auto, unfolding(crate::specs::Spelling::list_bytes))]
 pub fn write_list<T: Part>(out: &mut Vec<u8>, parts: &[T]) -> Result<(), NoMemory>
     requires { length parts.now ≤ MAX_CONTENT_LEN }
@@ -71,7 +71,7 @@ pub fn write_list<T: Part>(out: &mut Vec<u8>, parts: &[T]) -> Result<(), NoMemor
     write_parts(out, parts)
 }
 
-/// Appends the values of a row or a key.
+/// Appends the values of a row or a key, at most 2147483647.
 pub fn write_row(out: &mut Vec<u8>, row: &Row) -> Result<(), NoMemory>
     requires { length row.now ≤ MAX_CONTENT_LEN }
     ensures ok { OnOk result (out.new.items ≡ out.old.items ++ row_bytes row.now) }
@@ -80,9 +80,9 @@ pub fn write_row(out: &mut Vec<u8>, row: &Row) -> Result<(), NoMemory>
     write_list(out, row.values())
 }
 
-/// Appends a key, or that there is none.
+/// Appends a key of at most 2147483647 values, or that there is none.
 #[tactic(auto, unfolding(crate::specs::Spelling::option_bytes))]
-pub fn write_option(out: &mut Vec<u8>, key: &Option<Row>) -> Result<(), NoMemory>
+pub fn write_key_or_none(out: &mut Vec<u8>, key: &Option<Row>) -> Result<(), NoMemory>
     requires { IfSome key.now (λ k. length k ≤ MAX_CONTENT_LEN) }
     ensures ok { OnOk result (out.new.items ≡ out.old.items ++ option_bytes key.now) }
     ensures err { OnErr result (take (length out.old.items) out.new.items ≡ out.old.items) }
@@ -111,7 +111,7 @@ fn mark(column: &Column) -> u8
 
 /// Appends a column.
 #[tactic(auto, unfolding(crate::specs::Spelling::column_bytes))]
-pub fn write_column(out: &mut Vec<u8>, column: &Column) -> Result<(), NoMemory>
+pub(crate) fn write_column(out: &mut Vec<u8>, column: &Column) -> Result<(), NoMemory>
     ensures ok { OnOk result (out.new.items ≡ out.old.items ++ column_bytes column.now) }
     ensures err { OnErr result (take (length out.old.items) out.new.items ≡ out.old.items) }
 {
@@ -122,7 +122,7 @@ pub fn write_column(out: &mut Vec<u8>, column: &Column) -> Result<(), NoMemory>
 
 /// Appends a choice.
 #[tactic(auto, unfolding(crate::specs::Spelling::choice_bytes))]
-pub fn write_choice(out: &mut Vec<u8>, choice: Choice) -> Result<(), NoMemory>
+pub(crate) fn write_choice(out: &mut Vec<u8>, choice: Choice) -> Result<(), NoMemory>
     ensures ok { OnOk result (out.new.items ≡ out.old.items ++ choice_bytes choice) }
     ensures err { OnErr result (take (length out.old.items) out.new.items ≡ out.old.items) }
 {
@@ -130,7 +130,7 @@ pub fn write_choice(out: &mut Vec<u8>, choice: Choice) -> Result<(), NoMemory>
     Ok(())
 }
 
-/// Appends what is done about entries that change nothing.
+/// Appends whether no-ops are reported or ignored.
 #[tactic(auto, unfolding(crate::specs::Spelling::noop_bytes))]
 pub fn write_noop(out: &mut Vec<u8>, noop: Noop) -> Result<(), NoMemory>
     ensures ok { OnOk result (out.new.items ≡ out.old.items ++ noop_bytes noop) }

@@ -1,4 +1,5 @@
-//! The parts of calls, read from the left.
+//! The parts of calls, read from the left. Each reader returns the part at the front of the bytes, and the bytes after it.
+//! It allocates only for what it has read, whatever a count says.
 ghost use Rattle.std.specs.Prelude.{◌≡◌, ◌≤◌, ◌+◌, ◌<◌, ℕ, List, length, map, Result, IfOk, Err};
 ghost use Rattle.cs_value.specs.declared.TheConstants.{MAX_CONTENT_LEN};
 ghost use Rattle.cs_value.specs.declared.refusal.OrNoMemory.TheVariants.{Fault as OfFault};
@@ -18,7 +19,7 @@ use cs_value::{
 use std::alloc::Global;
 use std::str;
 
-/// Returns that a part cannot be read, from so many bytes before the end.
+/// Returns the refusal of a part, from whose place there are `left` bytes to the end of the call.
 pub fn refuse<T: Drop>(kind: CallFaultKind, left: usize) -> Result<T, Unread>
     ensures { result ≡ Err (OfFault (misread kind left)) }
 {
@@ -35,8 +36,12 @@ fn field_fault<T: Drop>(bytes: &[u8], fault: FieldFault) -> Result<T, Unread>
     }))
 }
 
-/// Returns the count at the front, and the bytes after it.
-pub fn read_number(bytes: &[u8]) -> Result<(u32, &[u8]), Unread>
+/// Returns the count at the front, at most 2147483647, and the bytes after it.
+///
+/// # Errors
+///
+/// `Truncated` and `BadVarint`, as [`varint_read`](cs_value::varint_read).
+pub fn read_count(bytes: &[u8]) -> Result<(u32, &[u8]), Unread>
     ensures exact { Gives (λ r. (r.0, r.1.now)) result (number_of bytes.now) }
     ensures small { IfOk result (λ r. r.0 ≤ MAX_CONTENT_LEN) }
     ensures within { IfOk result (λ r. length r.1.now ≤ length bytes.now) }
@@ -57,7 +62,7 @@ fn read_counted(bytes: &[u8]) -> Result<(&[u8], &[u8]), Unread>
     ensures small { IfOk result (λ r. length r.0.now ≤ MAX_CONTENT_LEN) }
     ensures within { IfOk result (λ r. length r.0.now + length r.1.now ≤ length bytes.now) }
 {
-    let (count, rest) = read_number(bytes)?;
+    let (count, rest) = read_count(bytes)?;
     let count = count as usize;
     if rest.len() < count {
         return refuse(CallFaultKind::Field(FieldFaultKind::Truncated), 0);
@@ -66,6 +71,10 @@ fn read_counted(bytes: &[u8]) -> Result<(&[u8], &[u8]), Unread>
 }
 
 /// Returns the bytes of a file at the front, after their count.
+///
+/// # Errors
+///
+/// Those of [`read_count`], `Truncated` if there are fewer bytes, and `NoMemory`.
 pub fn read_file(alloc: Global, bytes: &[u8]) -> Result<(Bytes, &[u8]), Unread>
     ensures { Gives (λ r. (r.0, r.1.now)) result (counted_of bytes.now) }
 {
@@ -74,6 +83,10 @@ pub fn read_file(alloc: Global, bytes: &[u8]) -> Result<(Bytes, &[u8]), Unread>
 }
 
 /// Returns the text at the front, after its count.
+///
+/// # Errors
+///
+/// Those of [`read_file`], and `BadText` if the bytes are not UTF-8, at the first byte after the count.
 #[tactic(auto, unfolding(crate::specs::Reading::text_of))]
 pub fn read_text(alloc: Global, bytes: &[u8]) -> Result<(Text, &[u8]), Unread>
     ensures { Gives (λ r. (r.0, r.1.now)) result (text_of bytes.now) }
@@ -89,7 +102,7 @@ pub fn read_text(alloc: Global, bytes: &[u8]) -> Result<(Text, &[u8]), Unread>
 }
 
 /// Returns the value at the front.
-pub fn read_value(alloc: Global, bytes: &[u8]) -> Result<(OwnedValue, &[u8]), Unread>
+pub(crate) fn read_value(alloc: Global, bytes: &[u8]) -> Result<(OwnedValue, &[u8]), Unread>
     ensures { Gives (λ r. (r.0, r.1.now)) result (value_of bytes.now) }
 {
     match field_read(bytes) {
@@ -97,7 +110,7 @@ pub fn read_value(alloc: Global, bytes: &[u8]) -> Result<(OwnedValue, &[u8]), Un
             let (_, rest) = bytes.split_at(used);
             Ok((value.to_owned(alloc)?, rest))
         }
-        Ok((Field::Undefined, _)) => refuse(CallFaultKind::Undefined, bytes.len()),
+        Ok((Field::Undefined, _)) => refuse(CallFaultKind::UndefinedField, bytes.len()),
         Err(fault) => field_fault(bytes, fault),
     }
 }
@@ -117,15 +130,24 @@ fn read_parts<T: Part>(alloc: Global, count: u32, bytes: &[u8]) -> Result<(Vec<T
 }
 
 /// Returns the parts at the front, after their count.
+///
+/// # Errors
+///
+/// Those of [`read_count`], those of the first part that cannot be read, and `NoMemory`.
 #[tactic(auto, unfolding(crate::specs::Reading::list_of))]
 pub fn read_list<T: Part>(alloc: Global, bytes: &[u8]) -> Result<(Vec<T>, &[u8]), Unread>
     ensures { Gives (λ r. (r.0.items, r.1.now)) result (list_of T.part_of bytes.now) }
 {
-    let (count, rest) = read_number(bytes)?;
+    let (count, rest) = read_count(bytes)?;
     read_parts(alloc, count, rest)
 }
 
 /// Returns the values at the front, after their count.
+///
+/// # Errors
+///
+/// As [`read_list`], with the faults of [`field_read`](cs_value::field_read), and `UndefinedField` for a value that is
+/// undefined.
 pub fn read_row(alloc: Global, bytes: &[u8]) -> Result<(Row, &[u8]), Unread>
     ensures { Gives (λ r. (r.0, r.1.now)) result (row_of bytes.now) }
 {
@@ -147,8 +169,12 @@ fn read_byte(limit: u8, bytes: &[u8]) -> Result<(u8, &[u8]), Unread>
 }
 
 /// Returns the key at the front, after the byte 1, or none after the byte 0.
+///
+/// # Errors
+///
+/// `BadByte` for another byte, and those of [`read_row`].
 #[tactic(auto, unfolding(crate::specs::Reading::option_of, crate::specs::Reading::option_after))]
-pub fn read_option(alloc: Global, bytes: &[u8]) -> Result<(Option<Row>, &[u8]), Unread>
+pub fn read_key_or_none(alloc: Global, bytes: &[u8]) -> Result<(Option<Row>, &[u8]), Unread>
     ensures { Gives (λ r. (r.0, r.1.now)) result (option_of bytes.now) }
 {
     let (mark, rest) = read_byte(2, bytes)?;
@@ -161,7 +187,7 @@ pub fn read_option(alloc: Global, bytes: &[u8]) -> Result<(Option<Row>, &[u8]), 
 
 /// Returns the column at the front.
 #[tactic(auto, unfolding(crate::specs::Reading::column_of))]
-pub fn read_column(alloc: Global, bytes: &[u8]) -> Result<(Column, &[u8]), Unread>
+pub(crate) fn read_column(alloc: Global, bytes: &[u8]) -> Result<(Column, &[u8]), Unread>
     ensures { Gives (λ r. (r.0, r.1.now)) result (column_of bytes.now) }
 {
     let (name, rest) = read_text(alloc, bytes)?;
@@ -176,7 +202,7 @@ pub fn read_column(alloc: Global, bytes: &[u8]) -> Result<(Column, &[u8]), Unrea
 
 /// Returns the choice at the front.
 #[tactic(auto, unfolding(crate::specs::Reading::choice_of))]
-pub fn read_choice(bytes: &[u8]) -> Result<(Choice, &[u8]), Unread>
+pub(crate) fn read_choice(bytes: &[u8]) -> Result<(Choice, &[u8]), Unread>
     ensures { Gives (λ r. (r.0, r.1.now)) result (choice_of bytes.now) }
 {
     let (number, rest) = read_byte(3, bytes)?;
@@ -188,7 +214,11 @@ pub fn read_choice(bytes: &[u8]) -> Result<(Choice, &[u8]), Unread>
     Ok((choice, rest))
 }
 
-/// Returns at the front what is done about entries that change nothing.
+/// Returns what is at the front: whether no-ops are reported or ignored.
+///
+/// # Errors
+///
+/// `Truncated` at the end, and `BadByte` for a byte above 1.
 #[tactic(auto, unfolding(crate::specs::Reading::noop_of))]
 pub fn read_noop(bytes: &[u8]) -> Result<(Noop, &[u8]), Unread>
     ensures { Gives (λ r. (r.0, r.1.now)) result (noop_of bytes.now) }
@@ -202,6 +232,10 @@ pub fn read_noop(bytes: &[u8]) -> Result<(Noop, &[u8]), Unread>
 }
 
 /// Returns the choices at the front, one for each kind of conflict.
+///
+/// # Errors
+///
+/// `Truncated` if the bytes end, and `BadByte` for a byte above 2.
 #[tactic(auto, unfolding(crate::specs::Reading::policy_of))]
 pub fn read_policy(bytes: &[u8]) -> Result<(Policy, &[u8]), Unread>
     ensures { Gives (λ r. (r.0, r.1.now)) result (policy_of bytes.now) }

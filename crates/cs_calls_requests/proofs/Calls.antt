@@ -23,7 +23,8 @@ use Rattle.cs_calls_requests.specs.declared.kind.RowKind.{RowKind}
 use Rattle.cs_calls_requests.specs.declared.kind.RowKind.TheVariants as row
 use Rattle.cs_calls_requests.specs.Kinds.{kinds, kind_at, number_of as call_number, plain_call, table_call, row_call}
 use Rattle.cs_calls_parts.specs.Spelling.{IsText, IsFile, IsList, IsColumn, list_bytes, row_bytes, option_bytes, column_bytes, choice_bytes, noop_bytes, policy_bytes}
-use Rattle.cs_calls_requests.specs.Spelling.{IsCall, parts_of, call_bytes}
+use Rattle.cs_calls_requests.specs.Laws.{CallBytes}
+use Rattle.cs_calls_requests.specs.Spelling.{HasCounts, IsCall, parts_of, call_bytes}
 use Rattle.cs_calls_parts.specs.Reading.{◌>>=◌, misread, number_of, counted_of, text_of, row_of, list_of, option_of, column_of, choice_of, noop_of, policy_of}
 use Rattle.cs_calls_requests.specs.Reading.{call_of, call_by, call_at, whole_call}
 use Rattle.cs_calls_parts.proofs.Steps.{done, given, Takes, Takes-then, not_value, bind_ok, wanted_ok}
@@ -226,3 +227,41 @@ call_again call.Limits rest is = refl
 pub whole_again : (c : Call) → IsCall c → whole_call (call_bytes c) ≡ Ok c
 unfolding whole_call
 whole_again c is = ap whole_call (sym (append-nil (call_bytes c))) ∙ rw (call_again c [] is) refl
+
+-- the bytes of a call are read as it
+pub call_bytes_again : CallBytes
+call_bytes_again c is = rw (whole_again c is) refl
+
+-- ---- counts
+
+option_counts : (after : Option (List OwnedValue)) → IfSome after (IsList IsValue) → IfSome after (λ key. length key ≤ MAX_CONTENT_LEN)
+option_counts None is = tt
+option_counts (Some key) is = is.few
+
+-- the lists of a call have counts
+pub call_counts : (c : Call) → IsCall c → HasCounts c
+unfolding IsCall HasCounts
+call_counts call.Tables is = tt
+call_counts (call.Schema name) is = tt
+call_counts (call.Declare name columns) is = is.1.few
+call_counts (call.Get name key) is = is.1.few
+call_counts (call.Rows name after limit) is = (option_counts after is.1, is.2)
+call_counts (call.Count name) is = tt
+call_counts (call.Insert name values) is = is.1.few
+call_counts (call.Update name key values) is = (is.1.few, is.2.few)
+call_counts (call.Delete name key) is = is.1.few
+call_counts (call.Put name values) is = is.1.few
+call_counts call.Begin is = tt
+call_counts call.Commit is = tt
+call_counts call.RollBack is = tt
+call_counts (call.Apply file noop policy) is = tt
+call_counts (call.ApplyChosen file noop choices) is = is.1
+call_counts (call.Rehearse file noop) is = tt
+call_counts (call.Revert file) is = tt
+call_counts call.OpenSession is = tt
+call_counts (call.Attach name) is = tt
+call_counts call.Changeset is = tt
+call_counts call.IsEmpty is = tt
+call_counts call.Undo is = tt
+call_counts call.CloseSession is = tt
+call_counts call.Limits is = tt

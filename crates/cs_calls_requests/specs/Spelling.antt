@@ -70,3 +70,30 @@ IsCall call.IsEmpty = Unit {0}
 IsCall call.Undo = Unit {0}
 IsCall call.CloseSession = Unit {0}
 IsCall call.Limits = Unit {0}
+
+-- the rows and lists of a call have at most 2147483647 parts, and its limit is at most that
+unfoldable pub HasCounts : Call → Type 0
+HasCounts call.Tables = Unit {0}
+HasCounts (call.Schema name) = Unit {0}
+HasCounts (call.Declare name columns) = length columns ≤ MAX_CONTENT_LEN
+HasCounts (call.Get name key) = length key ≤ MAX_CONTENT_LEN
+HasCounts (call.Rows name after limit) = IfSome after (λ key. length key ≤ MAX_CONTENT_LEN) × (limit ≤ MAX_CONTENT_LEN)
+HasCounts (call.Count name) = Unit {0}
+HasCounts (call.Insert name values) = length values ≤ MAX_CONTENT_LEN
+HasCounts (call.Update name key values) = (length key ≤ MAX_CONTENT_LEN) × (length values ≤ MAX_CONTENT_LEN)
+HasCounts (call.Delete name key) = length key ≤ MAX_CONTENT_LEN
+HasCounts (call.Put name values) = length values ≤ MAX_CONTENT_LEN
+HasCounts call.Begin = Unit {0}
+HasCounts call.Commit = Unit {0}
+HasCounts call.RollBack = Unit {0}
+HasCounts (call.Apply file noop policy) = Unit {0}
+HasCounts (call.ApplyChosen file noop choices) = length choices ≤ MAX_CONTENT_LEN
+HasCounts (call.Rehearse file noop) = Unit {0}
+HasCounts (call.Revert file) = Unit {0}
+HasCounts call.OpenSession = Unit {0}
+HasCounts (call.Attach name) = Unit {0}
+HasCounts call.Changeset = Unit {0}
+HasCounts call.IsEmpty = Unit {0}
+HasCounts call.Undo = Unit {0}
+HasCounts call.CloseSession = Unit {0}
+HasCounts call.Limits = Unit {0}

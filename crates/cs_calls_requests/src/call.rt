@@ -89,7 +89,7 @@ pub enum Call {
     },
     /// Returns the changeset of the session.
     Changeset,
-    /// Says whether the changeset of the session has no change.
+    /// Says whether no row of the attached tables was written.
     IsEmpty,
     /// Undoes what the session recorded.
     Undo,

@@ -3,15 +3,15 @@ ghost use Rattle.std.specs.Prelude.{◌≡◌, IfOk, Ok};
 ghost use Rattle.cs_calls_requests.specs.declared.call.Call.{Call as CallData};
 ghost use Rattle.cs_calls_requests.specs.declared.kind.Kind.TheVariants.{OfTable, OfRow, Declare, Rows as RowsKind, Update as UpdateKind, Apply as ApplyKind, ApplyChosen as ApplyChosenKind, Rehearse as RehearseKind, Revert as RevertKind};
 ghost use Rattle.cs_calls_requests.specs.Kinds.{table_call as table_call_of, row_call as row_call_of};
-ghost use Rattle.cs_calls_requests.specs.Spelling.{IsCall, call_bytes};
+ghost use Rattle.cs_calls_requests.specs.Spelling.{IsCall, HasCounts, call_bytes};
 ghost use Rattle.cs_calls_parts.specs.Reading.{Gives};
 ghost use Rattle.cs_calls_requests.specs.Reading.{call_of, call_at, call_in, whole_call};
 
 use crate::call::Call;
 use crate::kind::{Kind, RowKind, TableKind};
 use cs_calls_parts::{
-    CallError, CallFaultKind, Choices, Columns, Unread, read_file, read_list, read_noop,
-    read_number, read_option, read_policy, read_row, read_text, refuse,
+    CallError, CallFaultKind, Choices, Columns, Unread, read_count, read_file, read_key_or_none,
+    read_list, read_noop, read_policy, read_row, read_text, refuse,
 };
 use cs_value::{FieldFaultKind, OrNoMemory, Row, Text};
 use std::alloc::Global;
@@ -20,9 +20,13 @@ use std::alloc::Global;
 ///
 /// # Errors
 ///
-/// The first part that cannot be read, with its byte offset ([`CallFault`](crate::CallFault)), or `NoMemory`.
+/// Of the first part that cannot be read, with its byte offset ([`CallFault`](crate::CallFault)): `UnknownCall` for a
+/// number that no call has; `Truncated`, `BadVarint`, `BadType`, `RealValue` and `BadText` as in a changeset file;
+/// `UndefinedField` for a value that is undefined; `BadByte` for a byte that its place does not allow; `ExtraBytes` for
+/// bytes after the call. `NoMemory` if memory runs out.
 pub fn call_read(alloc: Global, bytes: &[u8]) -> Result<Call, CallError>
     ensures found { IfOk result (λ c. IsCall c × (bytes.now ≡ call_bytes c)) }
+    ensures counts { IfOk result HasCounts }
     ensures only { (c : CallData) → IsCall c → bytes.now ≡ call_bytes c → Gives (λ r. r) result (Ok c) }
     ensures exact { Gives (λ r. r) result (call_in bytes.now) }
 {
@@ -139,8 +143,8 @@ fn read_rows(alloc: Global, bytes: &[u8]) -> Result<(Call, &[u8]), Unread>
     ensures { Gives (λ r. (r.0, r.1.now)) result (call_of RowsKind bytes.now) }
 {
     let (table, rest) = read_text(alloc, bytes)?;
-    let (after, rest) = read_option(alloc, rest)?;
-    let (limit, rest) = read_number(rest)?;
+    let (after, rest) = read_key_or_none(alloc, rest)?;
+    let (limit, rest) = read_count(rest)?;
     let call = Call::Rows {
         table,
         after,

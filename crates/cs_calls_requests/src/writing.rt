@@ -3,20 +3,20 @@ ghost use Rattle.std.specs.Prelude.{◌≡◌, ◌≤◌, ◌++◌, length, OnOk
 ghost use Rattle.cs_value.specs.declared.TheConstants.{MAX_CONTENT_LEN};
 ghost use Rattle.cs_value.specs.Spelling.{counted};
 ghost use Rattle.cs_calls_parts.specs.Spelling.{row_bytes, noop_bytes};
-ghost use Rattle.cs_calls_requests.specs.Spelling.{IsCall, call_bytes, parts_of};
+ghost use Rattle.cs_calls_requests.specs.Spelling.{HasCounts, call_bytes, parts_of};
 
 use crate::call::Call;
 use crate::kind::number;
 use cs_apply_rows::Noop;
 use cs_calls_parts::{
-    write_file, write_list, write_noop, write_option, write_policy, write_row, write_text,
+    write_file, write_key_or_none, write_list, write_noop, write_policy, write_row, write_text,
 };
 use cs_value::{Bytes, NoMemory, Row, Text, varint_write};
 
 /// Appends the bytes of a call. Its rows and lists have at most 2147483647 parts, and a limit is at most that.
 /// [`NoMemory`] leaves `out` unchanged.
 pub fn call_write(out: &mut Vec<u8>, call: &Call) -> Result<(), NoMemory>
-    requires { IsCall call.now }
+    requires { HasCounts call.now }
     ensures ok { OnOk result (out.new.items ≡ out.old.items ++ call_bytes call.now) }
     ensures err { OnErr result (out.new.items ≡ out.old.items) }
 {
@@ -30,7 +30,7 @@ pub fn call_write(out: &mut Vec<u8>, call: &Call) -> Result<(), NoMemory>
 
 /// Appends the bytes of a call. [`NoMemory`] can leave some of them after the previous bytes.
 fn append_call(out: &mut Vec<u8>, call: &Call) -> Result<(), NoMemory>
-    requires { IsCall call.now }
+    requires { HasCounts call.now }
     ensures ok { OnOk result (out.new.items ≡ out.old.items ++ call_bytes call.now) }
     ensures err { OnErr result (take (length out.old.items) out.new.items ≡ out.old.items) }
 {
@@ -58,9 +58,9 @@ fn append_file(out: &mut Vec<u8>, file: &Bytes, noop: Noop) -> Result<(), NoMemo
 }
 
 /// Appends the parts of a call. [`NoMemory`] can leave some of their bytes after the previous ones.
-#[tactic(auto, unfolding(crate::specs::Spelling::parts_of, crate::specs::Spelling::IsCall))]
+#[tactic(auto, unfolding(crate::specs::Spelling::parts_of, crate::specs::Spelling::HasCounts))]
 fn append_parts(out: &mut Vec<u8>, call: &Call) -> Result<(), NoMemory>
-    requires { IsCall call.now }
+    requires { HasCounts call.now }
     ensures ok { OnOk result (out.new.items ≡ out.old.items ++ parts_of call.now) }
     ensures err { OnErr result (take (length out.old.items) out.new.items ≡ out.old.items) }
 {
@@ -82,7 +82,7 @@ fn append_parts(out: &mut Vec<u8>, call: &Call) -> Result<(), NoMemory>
             limit,
         } => {
             write_text(out, table)?;
-            write_option(out, after)?;
+            write_key_or_none(out, after)?;
             varint_write(out, *limit)
         }
         Call::Update { table, key, row } => {

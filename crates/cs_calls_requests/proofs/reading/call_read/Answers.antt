@@ -3,7 +3,7 @@ use Rattle.std.proofs.Common.{◌∙◌, Ok, sym, ap, arith}
 use Rattle.cs_value.proofs.ByteLists.{AreBytes-from_each}
 use Rattle.cs_calls_requests.specs.Reading.{whole_call}
 use Rattle.cs_calls_parts.proofs.Steps.{ok_is, not_both, fails_with}
-use Rattle.cs_calls_requests.proofs.Calls.{whole_takes, whole_again}
+use Rattle.cs_calls_requests.proofs.Calls.{whole_takes, whole_again, call_counts}
 use Rattle.cs_calls_requests.proofs.reading.call_read.Goals as goal
 
 pub returns-in-Ok-clause-found : goal.returns-in-Ok-clause-found
@@ -17,3 +17,7 @@ pub returns-in-Err-Fault-clause-only : goal.returns-in-Err-Fault-clause-only
 returns-in-Err-Fault-clause-only c = λ d is e.
     let fails = fails_with c.in-Err-Fault.field-0 c.in-Err-Fault.misread (whole_call c.args.bytes.now) c.in-Err-Fault.field-0-is c.in-Err-Fault.ensures in
     absurd (not_both d c.in-Err-Fault.misread (sym (whole_again d is) ∙ ap whole_call (sym e) ∙ fails))
+
+pub returns-in-Ok-clause-counts : goal.returns-in-Ok-clause-counts
+returns-in-Ok-clause-counts c =
+    call_counts c.in-Ok.call (whole_takes c.args.bytes.now c.in-Ok.call (AreBytes-from_each c.args.bytes.now (λ i. omega (arith, c.type_inv.bytes i))) c.in-Ok.ensures).0

@@ -1,8 +1,8 @@
--- `step::read_number`: the clause `exact`, what it ensures.
+-- `step::read_count`: the clause `exact`, what it ensures.
 use Rattle.std.proofs.Common.{◌∙◌, arith}
 use Rattle.cs_value.proofs.ByteLists.{AreBytes-from_each}
 use Rattle.cs_calls_parts.proofs.Exact.{number_exact, number_of-ok, number_of-err}
-use Rattle.cs_calls_parts.proofs.step.read_number.Goals as goal
+use Rattle.cs_calls_parts.proofs.step.read_count.Goals as goal
 
 pub returns-in-Ok-clause-exact : goal.returns-in-Ok-clause-exact
 returns-in-Ok-clause-exact c =
