@@ -13,7 +13,7 @@ use cs_apply_rows::Choice;
 use cs_value::{NoMemory, OwnedValue};
 use std::alloc::Global;
 
-/// A part of which a call can have a list.
+/// A part that calls have lists of.
 pub trait Part: Drop {
     ghost part_of: { List ℕ → Result (Self × List ℕ) MisreadData };
 

@@ -1,5 +1,5 @@
-//! The parts of calls, written one after another. If memory runs out, some bytes of a part can be left after the previous
-//! ones: a caller that wants none cuts the vector to its length before.
+//! The parts of calls, written one after another. If memory runs out, some bytes of a part can be left after the
+//! previous ones. A caller that wants none truncates the vector to its length before.
 ghost use Rattle.std.specs.Prelude.{◌≡◌, ◌≤◌, ◌++◌, length, OnOk, OnErr, IfSome, take};
 ghost use Rattle.std.specs.List.{flat_map};
 ghost use Rattle.cs_value.specs.declared.TheConstants.{MAX_CONTENT_LEN};

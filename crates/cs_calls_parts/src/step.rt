@@ -1,5 +1,5 @@
-//! The parts of calls, read from the left. Each reader returns the part at the front of the bytes, and the bytes after it.
-//! It allocates only for what it has read, whatever a count says.
+//! The parts of calls, read from the left. Each reader returns the part at the front of the bytes, and the bytes after
+//! it. It allocates only for what it has read, whatever a count says.
 ghost use Rattle.std.specs.Prelude.{◌≡◌, ◌≤◌, ◌+◌, ◌<◌, ℕ, List, length, map, Result, IfOk, Err};
 ghost use Rattle.cs_value.specs.declared.TheConstants.{MAX_CONTENT_LEN};
 ghost use Rattle.cs_value.specs.declared.refusal.OrNoMemory.TheVariants.{Fault as OfFault};

@@ -56,7 +56,7 @@ plain_parts plain.Undo = (refl, tt)
 plain_parts plain.CloseSession = (refl, tt)
 plain_parts plain.Limits = (refl, tt)
 
--- a call that names a table has this name alone
+-- a call that names a table has no other part
 record IsOfTable (kind : TableKind) (name : List ℕ) : Type 0 where
   parts : parts_of (table_call kind name) ≡ counted name
   is : IsText name → IsCall (table_call kind name)
