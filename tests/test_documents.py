@@ -4,9 +4,11 @@ leads to a file.
 
 The tag of a block says how: `console` blocks are commands and what they print, `python` and `c`
 blocks are programs, whose output is the `text` block after them or the comments of their last
-lines; `rust` blocks stand in a crate's code, and `sql` lines in that of `cs_store_records`. The program
-and the libraries for C and Python have to be built first, as the gate does.
+lines; `rust` blocks stand in a crate's code, and `sql` lines in that of `cs_store_records`. The
+`text` block of the page of calls stands in their tests. The program and the libraries for C and
+Python have to be built first, as the gate does.
 """
+import ast
 import os
 import pathlib
 import re
@@ -108,6 +110,16 @@ class Blocks(unittest.TestCase):
                 for part in filter(None, map(squeezed, parts)):
                     with self.subTest(document=str(document.relative_to(TOP)), part=part):
                         self.assertIn(part, proved)
+
+
+class Calls(unittest.TestCase):
+    """The page of calls has the bytes that the tests in Rattle read and write."""
+
+    def test_example(self):
+        [(_, shown)] = [block for block in blocks_of(TOP / "docs/CALLS.md") if block[0] == "text"]
+        tests = (TOP / "crates/format_tests/src/requests.rt").read_text()
+        written = re.search(r'^const AFTER: &\[u8\] =\s*(b".*");$', tests, re.M)
+        self.assertEqual(bytes.fromhex(shown), ast.literal_eval(written[1]))
 
 
 class Manual(unittest.TestCase):
