@@ -1,9 +1,14 @@
 -- What is read of a part is spelled so, and what is spelled so is read again.
-use Rattle.std.proofs.Common.{◌≡◌, ℕ, zero, suc, ◌+◌, ◌%◌, ◌<◌, ◌≤◌, Bool, false, true, cond, ltb, List, [], ◌∷◌, ◌++◌, length, take, drop, Option, Some, None, Result, Ok, Err, refl, sym, ap, subst, ◌∙◌, append_assoc, arith, length-append}
+use Rattle.std.proofs.Common.{◌≡◌, ℕ, zero, suc, ◌+◌, ◌%◌, ◌<◌, ◌≤◌, ◌^◌, Bool, false, true, cond, ltb, List, [], ◌∷◌, ◌++◌, length, take, drop, Option, Some, None, Result, Ok, Err, refl, sym, ap, subst, ◌∙◌, append_assoc, arith, length-append}
+use Rattle.std.specs.Int.{w64, to_be_bytes, from_be_bytes}
+use Rattle.std.proofs.lemmas.Nat.{be_bytes_8, from_be_bytes-to_be_bytes_8}
+use Rattle.cs_value.proofs.ByteLists.{each-from_AreBytes}
+use Rattle.cs_apply_conflicts.specs.declared.conflict.Kind.{Kind}
+use Rattle.cs_apply_conflicts.specs.declared.conflict.Kind.TheVariants.{Data, NotFound, Conflict, Constraint}
 use Rattle.std.specs.Prelude.{IfSome, nat_lt, ◌==◌, if◌then◌else◌}
 use Rattle.std.specs.List.{flat_map, AllByRecursion}
 use Rattle.std.specs.Str.{is_utf8}
-use Rattle.std.proofs.lemmas.Bool.{ltb-false, ltb-true, le-ltb, lt-ltb}
+use Rattle.std.proofs.lemmas.Bool.{ltb-false, ltb-true, le-ltb, lt-ltb, cond-false, ne_eqb}
 use Rattle.std.proofs.lemmas.List.{take-append-drop, length-take, take_at, drop_at}
 use Rattle.std.proofs.lemmas.List.Concat.{flat_map-cons}
 use Rattle.std.proofs.lemmas.Str.{IsUtf8-from_is_utf8, is_utf8-from_IsUtf8}
@@ -30,8 +35,8 @@ use Rattle.cs_apply_rows.specs.declared.policy.Policy.{Policy}
 use Rattle.cs_calls_parts.specs.declared.fault.CallFaultKind.TheVariants.{Field, BadByte}
 use Rattle.cs_calls_parts.specs.declared.fault.Misread.{Misread}
 use Rattle.cs_calls_parts.specs.declared.lists.Column.{Column}
-use Rattle.cs_calls_parts.specs.Spelling.{IsFile, IsText, IsList, IsColumn, list_bytes, row_bytes, option_bytes, mark_of, column_bytes, choice_bytes, noop_bytes, policy_bytes}
-use Rattle.cs_calls_parts.specs.Reading.{◌>>=◌, misread, number_after, number_of, counted_of, text_of, value_from, value_after, value_of, parts_at, list_of, row_of, byte_of, option_after, option_of, column_of, choice_of, noop_of, policy_of}
+use Rattle.cs_calls_parts.specs.Spelling.{IsFile, IsText, IsList, IsColumn, list_bytes, row_bytes, option_bytes, wide_bytes, flag_bytes, kind_bytes, mark_of, column_bytes, choice_bytes, noop_bytes, policy_bytes}
+use Rattle.cs_calls_parts.specs.Reading.{◌>>=◌, misread, number_after, number_of, counted_of, text_of, value_from, value_after, value_of, parts_at, list_of, row_of, byte_of, option_after, option_of, wide_of, flag_of, kind_from, kind_of, column_of, choice_of, noop_of, policy_of}
 use Rattle.cs_calls_parts.proofs.Steps.{given, Takes, Takes-then, ok_is, not_value, bind_ok, guard_ok, wanted_ok}
 
 -- a part that is read is one, and is spelled so; one that is spelled so is read
@@ -189,32 +194,117 @@ byte_again limit b rest lt = rw (lt-ltb b limit lt) refl
 pub codec_byte : (limit : ℕ) → IsCodec (λ b. b < limit) (λ b. b ∷ []) (byte_of limit)
 codec_byte limit = record { takes = byte_takes limit; again = byte_again limit }
 
--- ---- a key or none
+-- nothing is asked of a part
+abbrev pub Always : {X : Type 0} → X → Type 0
+Always x = Unit {0}
 
-option_marked : (bytes : List ℕ) (mark : ℕ) (behind : List ℕ) (o : Option (List OwnedValue)) (rest : List ℕ) → Takes bytes (mark ∷ []) behind → mark < 2
-    → option_after mark behind ≡ Ok (o, rest) → Takes bytes (option_bytes o) rest × IfSome o (IsList IsValue)
+-- ---- a part or none
+
+option_marked : {X : Type 0} (Is : X → Type 0) (spelled : X → List ℕ) (read : List ℕ → Result (X × List ℕ) Misread) → IsCodec Is spelled read
+    → (bytes : List ℕ) (mark : ℕ) (behind : List ℕ) (o : Option X) (rest : List ℕ) → Takes bytes (mark ∷ []) behind → mark < 2
+    → option_after read mark behind ≡ Ok (o, rest) → Takes bytes (option_bytes spelled o) rest × IfSome o Is
 unfolding option_after option_bytes
-option_marked bytes zero behind o rest t lt e =
-    given (λ (p : Option (List OwnedValue) × List ℕ). Takes bytes (option_bytes p.0) p.1 × IfSome p.0 (IsList IsValue)) (None, behind) (o, rest) e (t, tt)
-option_marked bytes (suc zero) behind o rest t lt e =
-    let s = step (IsList IsValue) row_bytes row_of codec_row (λ row. Ok (Some row.0, row.1)) behind (o, rest) t.are_bytes e in
-    given (λ (p : Option (List OwnedValue) × List ℕ). Takes bytes (option_bytes p.0) p.1 × IfSome p.0 (IsList IsValue)) (Some s.value, s.rest) (o, rest) s.goes_on
-    (Takes-then bytes (1 ∷ []) behind (row_bytes s.value) s.rest t s.takes, s.is)
-option_marked bytes (suc (suc mark)) behind o rest t lt e = absurd (omega arith)
+option_marked Is spelled read codec bytes zero behind o rest t lt e =
+    given (λ (p : Option _ × List ℕ). Takes bytes (option_bytes spelled p.0) p.1 × IfSome p.0 Is) (None, behind) (o, rest) e (t, tt)
+option_marked Is spelled read codec bytes (suc zero) behind o rest t lt e =
+    let s = step Is spelled read codec (λ part. Ok (Some part.0, part.1)) behind (o, rest) t.are_bytes e in
+    given (λ (p : Option _ × List ℕ). Takes bytes (option_bytes spelled p.0) p.1 × IfSome p.0 Is) (Some s.value, s.rest) (o, rest) s.goes_on
+    (Takes-then bytes (1 ∷ []) behind (spelled s.value) s.rest t s.takes, s.is)
+option_marked Is spelled read codec bytes (suc (suc mark)) behind o rest t lt e = absurd (omega arith)
 
-option_takes : (bytes : List ℕ) (o : Option (List OwnedValue)) (rest : List ℕ) → AreBytes bytes → option_of bytes ≡ Ok (o, rest) → Takes bytes (option_bytes o) rest × IfSome o (IsList IsValue)
+option_takes : {X : Type 0} (Is : X → Type 0) (spelled : X → List ℕ) (read : List ℕ → Result (X × List ℕ) Misread) → IsCodec Is spelled read
+    → (bytes : List ℕ) (o : Option X) (rest : List ℕ) → AreBytes bytes → option_of read bytes ≡ Ok (o, rest) → Takes bytes (option_bytes spelled o) rest × IfSome o Is
 unfolding option_of
-option_takes bytes o rest fits e =
-    let s = step (λ b. b < 2) (λ b. b ∷ []) (byte_of 2) (codec_byte 2) (λ mark. option_after mark.0 mark.1) bytes (o, rest) fits e in
-    option_marked bytes s.value s.rest o rest s.takes s.is s.goes_on
+option_takes Is spelled read codec bytes o rest fits e =
+    let s = step (λ b. b < 2) (λ b. b ∷ []) (byte_of 2) (codec_byte 2) (λ mark. option_after read mark.0 mark.1) bytes (o, rest) fits e in
+    option_marked Is spelled read codec bytes s.value s.rest o rest s.takes s.is s.goes_on
 
-option_again : (o : Option (List OwnedValue)) (rest : List ℕ) → IfSome o (IsList IsValue) → option_of (option_bytes o ++ rest) ≡ Ok (o, rest)
+option_again : {X : Type 0} (Is : X → Type 0) (spelled : X → List ℕ) (read : List ℕ → Result (X × List ℕ) Misread) → IsCodec Is spelled read
+    → (o : Option X) (rest : List ℕ) → IfSome o Is → option_of read (option_bytes spelled o ++ rest) ≡ Ok (o, rest)
 unfolding option_of option_after option_bytes byte_of
-option_again None rest is = refl
-option_again (Some key) rest is = rw (codec_row.again key rest is) refl
+option_again Is spelled read codec None rest is = refl
+option_again Is spelled read codec (Some part) rest is = rw (codec.again part rest is) refl
 
-pub codec_option : IsCodec (λ o. IfSome o (IsList IsValue)) option_bytes option_of
-codec_option = record { takes = option_takes; again = option_again }
+pub codec_option : {X : Type 0} (Is : X → Type 0) (spelled : X → List ℕ) (read : List ℕ → Result (X × List ℕ) Misread) → IsCodec Is spelled read
+    → IsCodec (λ o. IfSome o Is) (option_bytes spelled) (option_of read)
+codec_option Is spelled read codec = record { takes = option_takes Is spelled read codec; again = option_again Is spelled read codec }
+
+-- ---- numbers of 64 bits
+
+wide_again : (n : ℕ) (rest : List ℕ) → n < 2 ^ 64 → wide_of (wide_bytes n ++ rest) ≡ Ok (n, rest)
+unfolding wide_of
+wide_again n rest lt =
+    let bytes = wide_bytes n ++ rest in
+    let long : ltb (length bytes) 8 ≡ false = le-ltb (length bytes) 8 (omega arith) in
+    cond-false (ltb (length bytes) 8) _ (Ok (from_be_bytes w64 (wide_bytes n), rest)) long ∙ ap (λ (y : ℕ). Ok (y, rest)) (from_be_bytes-to_be_bytes_8 n lt)
+
+pub codec_wide : IsCodec (λ n. n < 2 ^ 64) wide_bytes wide_of
+unfolding wide_of
+codec_wide = record {
+  takes = λ bytes n rest fits e.
+      let front = take 8 bytes in
+      let g = guard_ok (ltb (length bytes) 8) (misread (Field Truncated) 0) (from_be_bytes w64 front, drop 8 bytes) (n, rest) e in
+      let long : 8 ≤ length bytes = ltb-false (length bytes) 8 g.0 in
+      let eight : length front ≡ 8 = omega (arith, length-take 8 bytes) in
+      let at = each-from_AreBytes front (AreBytes-take 8 bytes fits) in
+      let back : to_be_bytes w64 (from_be_bytes w64 front) ≡ front = be_bytes_8 front (from_be_bytes w64 front) eight at refl in
+      let below : from_be_bytes w64 front < 2 ^ 64 = omega (arith, at 0, at 1, at 2, at 3, at 4, at 5, at 6, at 7) in
+      let taken : Takes bytes (wide_bytes (from_be_bytes w64 front)) (drop 8 bytes) = record { parts = sym (take-append-drop 8 bytes) ∙ ap (λ (text : List ℕ). text ++ drop 8 bytes) (sym back); are_bytes = AreBytes-drop 8 bytes fits } in
+      subst (λ (p : ℕ × List ℕ). Takes bytes (wide_bytes p.0) p.1 × (p.0 < 2 ^ 64)) g.1 (taken, below);
+  again = wide_again;
+}
+
+-- ---- yes and no
+
+flag_marked : (bytes : List ℕ) (number : ℕ) (rest : List ℕ) → Takes bytes (number ∷ []) rest → number < 2 → Takes bytes (flag_bytes (number == 1)) rest
+unfolding flag_bytes
+flag_marked bytes zero rest t lt = t
+flag_marked bytes (suc zero) rest t lt = t
+flag_marked bytes (suc (suc number)) rest t lt = absurd (omega arith)
+
+flag_takes : (bytes : List ℕ) (flag : Bool) (rest : List ℕ) → AreBytes bytes → flag_of bytes ≡ Ok (flag, rest) → Takes bytes (flag_bytes flag) rest × Always flag
+unfolding flag_of
+flag_takes bytes flag rest fits e =
+    let s = step (λ b. b < 2) (λ b. b ∷ []) (byte_of 2) (codec_byte 2) (λ number. Ok (number.0 == 1, number.1)) bytes (flag, rest) fits e in
+    given (λ (p : Bool × List ℕ). Takes bytes (flag_bytes p.0) p.1 × Always p.0) (s.value == 1, s.rest) (flag, rest) s.goes_on (flag_marked bytes s.value s.rest s.takes s.is, tt)
+
+flag_again : (flag : Bool) (rest : List ℕ) → Always flag → flag_of (flag_bytes flag ++ rest) ≡ Ok (flag, rest)
+unfolding flag_of flag_bytes byte_of
+flag_again false rest is = refl
+flag_again true rest is = refl
+
+pub codec_flag : IsCodec Always flag_bytes flag_of
+codec_flag = record { takes = flag_takes; again = flag_again }
+
+-- ---- kinds of conflicts
+
+kind_from-other : (number : ℕ) (rest : List ℕ) → 4 < number → kind_from number rest ≡ Err (misread BadByte (1 + length rest))
+unfolding kind_from
+kind_from-other number rest lt = rw (ne_eqb number 1 (omega arith), ne_eqb number 2 (omega arith), ne_eqb number 3 (omega arith), ne_eqb number 4 (omega arith)) refl
+
+kind_takes : (bytes : List ℕ) (kind : Kind) (rest : List ℕ) → AreBytes bytes → kind_of bytes ≡ Ok (kind, rest) → Takes bytes (kind_bytes kind) rest × Always kind
+unfolding kind_of kind_from kind_bytes
+kind_takes [] kind rest fits e = absurd (not_value _ _ e)
+kind_takes (zero ∷ bytes) kind rest fits e = absurd (not_value _ _ e)
+kind_takes (suc zero ∷ bytes) kind rest fits e =
+    given (λ (p : Kind × List ℕ). Takes (1 ∷ bytes) (kind_bytes p.0) p.1 × Always p.0) (Data, bytes) (kind, rest) e (record { parts = refl; are_bytes = fits.1 }, tt)
+kind_takes (suc (suc zero) ∷ bytes) kind rest fits e =
+    given (λ (p : Kind × List ℕ). Takes (2 ∷ bytes) (kind_bytes p.0) p.1 × Always p.0) (NotFound, bytes) (kind, rest) e (record { parts = refl; are_bytes = fits.1 }, tt)
+kind_takes (suc (suc (suc zero)) ∷ bytes) kind rest fits e =
+    given (λ (p : Kind × List ℕ). Takes (3 ∷ bytes) (kind_bytes p.0) p.1 × Always p.0) (Conflict, bytes) (kind, rest) e (record { parts = refl; are_bytes = fits.1 }, tt)
+kind_takes (suc (suc (suc (suc zero))) ∷ bytes) kind rest fits e =
+    given (λ (p : Kind × List ℕ). Takes (4 ∷ bytes) (kind_bytes p.0) p.1 × Always p.0) (Constraint, bytes) (kind, rest) e (record { parts = refl; are_bytes = fits.1 }, tt)
+kind_takes (suc (suc (suc (suc (suc number)))) ∷ bytes) kind rest fits e = absurd (not_value (kind, rest) (misread BadByte (1 + length bytes)) (sym (kind_from-other (suc (suc (suc (suc (suc number))))) bytes (omega arith)) ∙ e))
+
+kind_again : (kind : Kind) (rest : List ℕ) → Always kind → kind_of (kind_bytes kind ++ rest) ≡ Ok (kind, rest)
+unfolding kind_of kind_from kind_bytes
+kind_again Data rest is = refl
+kind_again NotFound rest is = refl
+kind_again Conflict rest is = refl
+kind_again Constraint rest is = refl
+
+pub codec_kind : IsCodec Always kind_bytes kind_of
+codec_kind = record { takes = kind_takes; again = kind_again }
 
 -- ---- columns
 
@@ -247,9 +337,6 @@ pub codec_column : IsCodec IsColumn column_bytes column_of
 codec_column = record { takes = column_takes; again = λ column rest is. column_marked_again column.name column.is_key column.refuses_null rest is }
 
 -- ---- choices
-
-abbrev pub Always : {X : Type 0} → X → Type 0
-Always x = Unit {0}
 
 numbered_choice : (number : ℕ) → number < 3 → choice_number (if number == 0 then Omit else if number == 1 then Replace else Abort) ≡ number
 numbered_choice zero lt = refl

@@ -1,6 +1,6 @@
 -- What is read of bytes, part by part from the left: a part and the bytes after it, or the first fault.
 use Rattle.std.specs.Prelude.{◌≡◌, ℕ, zero, suc, ◌+◌, ◌-◌, ◌%◌, ◌==◌, nat_lt, if◌then◌else◌, List, [], ◌∷◌, length}
-use Rattle.std.specs.Prelude.{take, drop, Option, None, Some, Result, Ok, Err}
+use Rattle.std.specs.Prelude.{take, drop, Bool, Option, None, Some, Result, Ok, Err}
 use Rattle.std.specs.Str.{is_utf8}
 use Rattle.cs_value.specs.declared.refusal.OrNoMemory.{OrNoMemory}
 use Rattle.cs_value.specs.declared.refusal.OrNoMemory.TheVariants.{Fault, NoMemory}
@@ -10,6 +10,9 @@ use Rattle.cs_value.specs.declared.value.OwnedValue.{OwnedValue}
 use Rattle.cs_value.specs.declared.value.OwnedField.{OwnedField}
 use Rattle.cs_value.specs.declared.value.OwnedField.TheVariants.{Undefined, Defined}
 use Rattle.cs_value.specs.Reading.{number_at, field_at}
+use Rattle.std.specs.Int.{w64, from_be_bytes}
+use Rattle.cs_apply_conflicts.specs.declared.conflict.Kind.{Kind}
+use Rattle.cs_apply_conflicts.specs.declared.conflict.Kind.TheVariants.{Data, NotFound, Conflict, Constraint}
 use Rattle.cs_apply_conflicts.specs.declared.conflict.Choice.{Choice}
 use Rattle.cs_apply_conflicts.specs.declared.conflict.Choice.TheVariants.{Omit, Replace, Abort}
 use Rattle.cs_apply_conflicts.specs.declared.conflict.Noop.{Noop}
@@ -96,16 +99,38 @@ unfoldable pub byte_of : ℕ → List ℕ → Result (ℕ × List ℕ) Misread
 byte_of limit [] = Err (misread (Field Truncated) 0)
 byte_of limit (byte ∷ rest) = if nat_lt byte limit then Ok (byte, rest) else Err (misread BadByte (length (byte ∷ rest)))
 
-unfoldable pub option_after : ℕ → List ℕ → Result (Option (List OwnedValue) × List ℕ) Misread
-option_after zero bytes = Ok (None, bytes)
-option_after (suc more) bytes = do
-  row ← row_of bytes
-  Ok (Some row.0, row.1)
+unfoldable pub option_after : {X : Type 0} → (List ℕ → Result (X × List ℕ) Misread) → ℕ → List ℕ → Result (Option X × List ℕ) Misread
+option_after part_of zero bytes = Ok (None, bytes)
+option_after part_of (suc more) bytes = do
+  part ← part_of bytes
+  Ok (Some part.0, part.1)
 
-unfoldable pub option_of : List ℕ → Result (Option (List OwnedValue) × List ℕ) Misread
-option_of bytes = do
+unfoldable pub option_of : {X : Type 0} → (List ℕ → Result (X × List ℕ) Misread) → List ℕ → Result (Option X × List ℕ) Misread
+option_of part_of bytes = do
   mark ← byte_of 2 bytes
-  option_after mark.0 mark.1
+  option_after part_of mark.0 mark.1
+
+-- a number of 64 bits
+unfoldable pub wide_of : List ℕ → Result (ℕ × List ℕ) Misread
+wide_of bytes = if nat_lt (length bytes) 8 then Err (misread (Field Truncated) 0) else Ok (from_be_bytes w64 (take 8 bytes), drop 8 bytes)
+
+unfoldable pub flag_of : List ℕ → Result (Bool × List ℕ) Misread
+flag_of bytes = do
+  flag ← byte_of 2 bytes
+  Ok (flag.0 == 1, flag.1)
+
+-- the kind of a conflict with a number, before bytes
+unfoldable pub kind_from : ℕ → List ℕ → Result (Kind × List ℕ) Misread
+kind_from number rest =
+    if number == 1 then Ok (Data, rest)
+    else if number == 2 then Ok (NotFound, rest)
+    else if number == 3 then Ok (Conflict, rest)
+    else if number == 4 then Ok (Constraint, rest)
+    else Err (misread BadByte (1 + length rest))
+
+unfoldable pub kind_of : List ℕ → Result (Kind × List ℕ) Misread
+kind_of [] = Err (misread (Field Truncated) 0)
+kind_of (number ∷ rest) = kind_from number rest
 
 unfoldable pub column_of : List ℕ → Result (Column × List ℕ) Misread
 column_of bytes = do

@@ -9,7 +9,9 @@ use Rattle.cs_value.specs.Spelling.{counted, value_bytes}
 use Rattle.cs_apply_conflicts.specs.declared.conflict.Choice.{Choice}
 use Rattle.cs_apply_conflicts.specs.declared.conflict.Noop.{Noop}
 use Rattle.cs_apply_conflicts.specs.declared.conflict.Noop.TheVariants.{Report, Ignore}
-use Rattle.cs_apply_conflicts.specs.Conflicts.{choice_number}
+use Rattle.cs_apply_conflicts.specs.declared.conflict.Kind.{Kind}
+use Rattle.cs_apply_conflicts.specs.Conflicts.{choice_number, kind_number}
+use Rattle.std.specs.Int.{w64, to_be_bytes}
 use Rattle.cs_apply_rows.specs.declared.policy.Policy.{Policy}
 use Rattle.cs_calls_parts.specs.declared.lists.Column.{Column}
 
@@ -34,10 +36,23 @@ pub record IsList {X : Type 0} (IsPart : X → Type 0) (parts : List X) : Type 0
 abbrev pub row_bytes : List OwnedValue → List ℕ
 row_bytes values = list_bytes value_bytes values
 
--- 0 for no key, 1 before one
-unfoldable pub option_bytes : Option (List OwnedValue) → List ℕ
-option_bytes None = 0 ∷ []
-option_bytes (Some key) = 1 ∷ row_bytes key
+-- 0 for none, 1 before a part
+unfoldable pub option_bytes : {X : Type 0} → (X → List ℕ) → Option X → List ℕ
+option_bytes part_bytes None = 0 ∷ []
+option_bytes part_bytes (Some part) = 1 ∷ part_bytes part
+
+-- a number of 64 bits: eight bytes, big-endian
+abbrev pub wide_bytes : ℕ → List ℕ
+wide_bytes number = to_be_bytes w64 number
+
+-- 1 for yes, 0 for no
+unfoldable pub flag_bytes : Bool → List ℕ
+flag_bytes false = 0 ∷ []
+flag_bytes true = 1 ∷ []
+
+-- SQLite's number of the kind of a conflict: 1 DATA, 2 NOTFOUND, 3 CONFLICT, 4 CONSTRAINT
+unfoldable pub kind_bytes : Kind → List ℕ
+kind_bytes kind = kind_number kind ∷ []
 
 -- 1 for a column of the key, and 2 more for one that refuses NULL
 unfoldable pub mark_of : Bool → Bool → ℕ

@@ -20,8 +20,11 @@ pub enum CallFaultKind {
     /// The first byte is no call's number.
     #[error("there is no call of this number")]
     UnknownCall,
-    /// Bytes follow the call.
-    #[error("bytes follow the call")]
+    /// The first byte is no answer's number.
+    #[error("there is no answer of this number")]
+    UnknownAnswer,
+    /// Bytes follow the call or the answer.
+    #[error("bytes follow it")]
     ExtraBytes,
 }
 
@@ -36,6 +39,7 @@ impl CallFaultKind {
             CallFaultKind::BadByte => 90,
             CallFaultKind::UnknownCall => 91,
             CallFaultKind::ExtraBytes => 92,
+            CallFaultKind::UnknownAnswer => 93,
         }
     }
 
@@ -49,6 +53,7 @@ impl CallFaultKind {
             CallFaultKind::BadByte => "BadByte",
             CallFaultKind::UnknownCall => "UnknownCall",
             CallFaultKind::ExtraBytes => "ExtraBytes",
+            CallFaultKind::UnknownAnswer => "UnknownAnswer",
         }
     }
 }

@@ -21,9 +21,10 @@ pub use fault::{CallError, CallFault, CallFaultKind, Misread, Unread};
 pub use lists::{Choices, Column, Columns};
 pub use part::Part;
 pub use spell::{
-    write_file, write_key_or_none, write_list, write_noop, write_policy, write_row, write_text,
+    write_choice, write_file, write_flag, write_kind, write_list, write_noop, write_number,
+    write_option, write_policy, write_row, write_text,
 };
 pub use step::{
-    read_count, read_file, read_key_or_none, read_list, read_noop, read_policy, read_row,
-    read_text, refuse,
+    read_choice, read_count, read_file, read_flag, read_kind, read_list, read_noop, read_number,
+    read_option, read_policy, read_row, read_text, refuse,
 };

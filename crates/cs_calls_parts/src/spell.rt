@@ -1,14 +1,15 @@
 //! The parts of calls, written one after another. If memory runs out, some bytes of a part can be left after the
 //! previous ones. A caller that wants none truncates the vector to its length before.
-ghost use Rattle.std.specs.Prelude.{◌≡◌, ◌≤◌, ◌++◌, length, OnOk, OnErr, IfSome, take};
+ghost use Rattle.std.specs.Prelude.{◌≡◌, ◌≤◌, ◌++◌, length, OnOk, OnErr, IfSome, All, take};
 ghost use Rattle.std.specs.List.{flat_map};
 ghost use Rattle.cs_value.specs.declared.TheConstants.{MAX_CONTENT_LEN};
 ghost use Rattle.cs_value.specs.Spelling.{counted, value_bytes};
-ghost use Rattle.cs_calls_parts.specs.Spelling.{row_bytes, option_bytes, column_bytes, list_bytes, choice_bytes};
+ghost use Rattle.cs_calls_parts.specs.Spelling.{row_bytes, option_bytes, column_bytes, list_bytes, choice_bytes, wide_bytes, flag_bytes, kind_bytes};
 ghost use Rattle.cs_calls_parts.specs.Spelling.{noop_bytes, policy_bytes, mark_of};
 
 use crate::lists::Column;
 use crate::part::Part;
+use cs_apply_conflicts::Kind;
 use cs_apply_rows::{Choice, Noop, Policy};
 use cs_value::{Bytes, Field, NoMemory, OwnedValue, Row, Text, field_write, varint_write};
 
@@ -51,6 +52,7 @@ pub(crate) fn write_value(out: &mut Vec<u8>, value: &OwnedValue) -> Result<(), N
 
 /// Appends parts, one after another.
 fn write_parts<T: Part>(out: &mut Vec<u8>, parts: &[T]) -> Result<(), NoMemory>
+    requires { All T.IsCounted parts.now }
     ensures ok { OnOk result (out.new.items ≡ out.old.items ++ flat_map T.part_bytes parts.now) }
     ensures err { OnErr result (take (length out.old.items) out.new.items ≡ out.old.items) }
 {
@@ -63,7 +65,8 @@ fn write_parts<T: Part>(out: &mut Vec<u8>, parts: &[T]) -> Result<(), NoMemory>
 /// Appends parts after their count. There are at most 2147483647.
 #[tactic(auto, unfolding(crate::specs::Spelling::list_bytes))]
 pub fn write_list<T: Part>(out: &mut Vec<u8>, parts: &[T]) -> Result<(), NoMemory>
-    requires { length parts.now ≤ MAX_CONTENT_LEN }
+    requires few { length parts.now ≤ MAX_CONTENT_LEN }
+    requires counted { All T.IsCounted parts.now }
     ensures ok { OnOk result (out.new.items ≡ out.old.items ++ list_bytes T.part_bytes parts.now) }
     ensures err { OnErr result (take (length out.old.items) out.new.items ≡ out.old.items) }
 {
@@ -80,20 +83,49 @@ pub fn write_row(out: &mut Vec<u8>, row: &Row) -> Result<(), NoMemory>
     write_list(out, row.values())
 }
 
-/// Appends a key of at most 2147483647 values, or that there is none.
+/// Appends a part, or that there is none.
 #[tactic(auto, unfolding(crate::specs::Spelling::option_bytes))]
-pub fn write_key_or_none(out: &mut Vec<u8>, key: &Option<Row>) -> Result<(), NoMemory>
-    requires { IfSome key.now (λ k. length k ≤ MAX_CONTENT_LEN) }
-    ensures ok { OnOk result (out.new.items ≡ out.old.items ++ option_bytes key.now) }
+pub fn write_option<T: Part>(out: &mut Vec<u8>, part: &Option<T>) -> Result<(), NoMemory>
+    requires { IfSome part.now T.IsCounted }
+    ensures ok { OnOk result (out.new.items ≡ out.old.items ++ option_bytes T.part_bytes part.now) }
     ensures err { OnErr result (take (length out.old.items) out.new.items ≡ out.old.items) }
 {
-    match key {
-        Some(key) => {
+    match part {
+        Some(part) => {
             out.push(1)?;
-            write_row(out, key)
+            part.write(out)
         }
         None => Ok(out.push(0)?),
     }
+}
+
+/// Appends a number as eight bytes.
+pub fn write_number(out: &mut Vec<u8>, number: u64) -> Result<(), NoMemory>
+    ensures ok { OnOk result (out.new.items ≡ out.old.items ++ wide_bytes number) }
+    ensures err { OnErr result (take (length out.old.items) out.new.items ≡ out.old.items) }
+{
+    out.extend_from_slice(&number.to_be_bytes())?;
+    Ok(())
+}
+
+/// Appends yes or no.
+#[tactic(auto, unfolding(crate::specs::Spelling::flag_bytes))]
+pub fn write_flag(out: &mut Vec<u8>, flag: bool) -> Result<(), NoMemory>
+    ensures ok { OnOk result (out.new.items ≡ out.old.items ++ flag_bytes flag) }
+    ensures err { OnErr result (take (length out.old.items) out.new.items ≡ out.old.items) }
+{
+    out.push(if flag { 1 } else { 0 })?;
+    Ok(())
+}
+
+/// Appends the kind of a conflict.
+#[tactic(auto, unfolding(crate::specs::Spelling::kind_bytes))]
+pub fn write_kind(out: &mut Vec<u8>, kind: Kind) -> Result<(), NoMemory>
+    ensures ok { OnOk result (out.new.items ≡ out.old.items ++ kind_bytes kind) }
+    ensures err { OnErr result (take (length out.old.items) out.new.items ≡ out.old.items) }
+{
+    out.push(kind.number())?;
+    Ok(())
 }
 
 /// Returns the mark of a column.
@@ -122,7 +154,7 @@ pub(crate) fn write_column(out: &mut Vec<u8>, column: &Column) -> Result<(), NoM
 
 /// Appends a choice.
 #[tactic(auto, unfolding(crate::specs::Spelling::choice_bytes))]
-pub(crate) fn write_choice(out: &mut Vec<u8>, choice: Choice) -> Result<(), NoMemory>
+pub fn write_choice(out: &mut Vec<u8>, choice: Choice) -> Result<(), NoMemory>
     ensures ok { OnOk result (out.new.items ≡ out.old.items ++ choice_bytes choice) }
     ensures err { OnErr result (take (length out.old.items) out.new.items ≡ out.old.items) }
 {

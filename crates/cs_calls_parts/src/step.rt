@@ -6,11 +6,12 @@ ghost use Rattle.cs_value.specs.declared.refusal.OrNoMemory.TheVariants.{Fault a
 ghost use Rattle.cs_calls_parts.specs.declared.fault.Misread.{Misread as MisreadData};
 ghost use Rattle.cs_calls_parts.specs.Reading.{Gives, misread, field_misread, number_of, counted_of, text_of, value_of};
 ghost use Rattle.cs_calls_parts.specs.Reading.{parts_at, list_of, row_of, byte_of, option_after, option_of, column_of};
-ghost use Rattle.cs_calls_parts.specs.Reading.{choice_of, noop_of, policy_of};
+ghost use Rattle.cs_calls_parts.specs.Reading.{choice_of, noop_of, policy_of, wide_of, flag_of, kind_of};
 
 use crate::fault::{CallFaultKind, Misread, Unread};
 use crate::lists::Column;
 use crate::part::Part;
+use cs_apply_conflicts::Kind;
 use cs_apply_rows::{Choice, Noop, Policy};
 use cs_value::{
     Bytes, Field, FieldFault, FieldFaultKind, OrNoMemory, OwnedValue, Row, Text, field_read,
@@ -168,21 +169,72 @@ fn read_byte(limit: u8, bytes: &[u8]) -> Result<(u8, &[u8]), Unread>
     }
 }
 
-/// Returns the key at the front, after the byte 1, or none after the byte 0.
+/// Returns the part at the front, after the byte 1, or none after the byte 0.
 ///
 /// # Errors
 ///
-/// `BadByte` for another byte, and those of [`read_row`].
+/// `Truncated` at the end, `BadByte` for another byte, and those of the part.
 #[tactic(auto, unfolding(crate::specs::Reading::option_of, crate::specs::Reading::option_after))]
-pub fn read_key_or_none(alloc: Global, bytes: &[u8]) -> Result<(Option<Row>, &[u8]), Unread>
-    ensures { Gives (λ r. (r.0, r.1.now)) result (option_of bytes.now) }
+pub fn read_option<T: Part>(alloc: Global, bytes: &[u8]) -> Result<(Option<T>, &[u8]), Unread>
+    ensures { Gives (λ r. (r.0, r.1.now)) result (option_of T.part_of bytes.now) }
 {
     let (mark, rest) = read_byte(2, bytes)?;
     if mark == 0 {
         return Ok((None, rest));
     }
-    let (row, rest) = read_row(alloc, rest)?;
-    Ok((Some(row), rest))
+    let (part, rest) = T::read(alloc, rest)?;
+    Ok((Some(part), rest))
+}
+
+/// Returns the number at the front, of eight bytes.
+///
+/// # Errors
+///
+/// `Truncated` if there are fewer bytes.
+#[tactic(auto, unfolding(crate::specs::Reading::wide_of))]
+pub fn read_number(bytes: &[u8]) -> Result<(u64, &[u8]), Unread>
+    ensures { Gives (λ r. (r.0, r.1.now)) result (wide_of bytes.now) }
+{
+    if bytes.len() < 8 {
+        return refuse(CallFaultKind::Field(FieldFaultKind::Truncated), 0);
+    }
+    let (front, rest) = bytes.split_at(8);
+    let number = u64::from_be_bytes([
+        front[0], front[1], front[2], front[3], front[4], front[5], front[6], front[7],
+    ]);
+    Ok((number, rest))
+}
+
+/// Returns whether the byte at the front says yes.
+///
+/// # Errors
+///
+/// `Truncated` at the end, and `BadByte` for a byte above 1.
+#[tactic(auto, unfolding(crate::specs::Reading::flag_of))]
+pub fn read_flag(bytes: &[u8]) -> Result<(bool, &[u8]), Unread>
+    ensures { Gives (λ r. (r.0, r.1.now)) result (flag_of bytes.now) }
+{
+    let (flag, rest) = read_byte(2, bytes)?;
+    Ok((flag == 1, rest))
+}
+
+/// Returns the kind of a conflict at the front.
+///
+/// # Errors
+///
+/// `Truncated` at the end, and `BadByte` for a byte that is not 1 to 4.
+#[tactic(auto, unfolding(crate::specs::Reading::kind_of, crate::specs::Reading::kind_from))]
+pub fn read_kind(bytes: &[u8]) -> Result<(Kind, &[u8]), Unread>
+    ensures { Gives (λ r. (r.0, r.1.now)) result (kind_of bytes.now) }
+{
+    match bytes {
+        [] => refuse(CallFaultKind::Field(FieldFaultKind::Truncated), 0),
+        [1, rest @ ..] => Ok((Kind::Data, rest)),
+        [2, rest @ ..] => Ok((Kind::NotFound, rest)),
+        [3, rest @ ..] => Ok((Kind::Conflict, rest)),
+        [4, rest @ ..] => Ok((Kind::Constraint, rest)),
+        _ => refuse(CallFaultKind::BadByte, bytes.len()),
+    }
 }
 
 /// Returns the column at the front.
@@ -202,7 +254,7 @@ pub(crate) fn read_column(alloc: Global, bytes: &[u8]) -> Result<(Column, &[u8])
 
 /// Returns the choice at the front.
 #[tactic(auto, unfolding(crate::specs::Reading::choice_of))]
-pub(crate) fn read_choice(bytes: &[u8]) -> Result<(Choice, &[u8]), Unread>
+pub fn read_choice(bytes: &[u8]) -> Result<(Choice, &[u8]), Unread>
     ensures { Gives (λ r. (r.0, r.1.now)) result (choice_of bytes.now) }
 {
     let (number, rest) = read_byte(3, bytes)?;

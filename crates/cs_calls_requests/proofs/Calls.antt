@@ -29,7 +29,7 @@ use Rattle.cs_calls_parts.specs.Reading.{◌>>=◌, misread, number_of, counted_
 use Rattle.cs_calls_requests.specs.Reading.{call_of, call_by, call_at, whole_call}
 use Rattle.cs_calls_parts.proofs.Steps.{done, given, Takes, Takes-then, not_value, bind_ok, wanted_ok}
 use Rattle.cs_calls_requests.proofs.KindLemmas.{kind_number, kind_at-number}
-use Rattle.cs_calls_parts.proofs.Codecs.{Always, step, codec_number, codec_counted, codec_text, codec_list, codec_row, codec_option, codec_column, codec_choice, codec_noop, codec_policy}
+use Rattle.cs_calls_parts.proofs.Codecs.{IsCodec, Always, step, codec_number, codec_counted, codec_text, codec_list, codec_row, codec_option, codec_column, codec_choice, codec_noop, codec_policy}
 
 -- the parts of a call of a kind were taken
 record TakesCall (kind : Kind) (bytes : List ℕ) (c : Call) (rest : List ℕ) : Type 0 where
@@ -40,6 +40,10 @@ record TakesCall (kind : Kind) (bytes : List ℕ) (c : Call) (rest : List ℕ) :
 -- the call that is answered is the one that was made
 taken : (kind : Kind) (bytes : List ℕ) (made : Call) (behind : List ℕ) (c : Call) (rest : List ℕ) → TakesCall kind bytes made behind → done {A = Call × List ℕ} (made, behind) ≡ done (c, rest) → TakesCall kind bytes c rest
 taken kind bytes made behind c rest t e = given (λ (p : Call × List ℕ). TakesCall kind bytes p.0 p.1) (made, behind) (c, rest) e t
+
+-- a key or none
+codec_key : IsCodec (λ o. IfSome o (IsList IsValue)) (option_bytes row_bytes) (option_of row_of)
+codec_key = codec_option (IsList IsValue) row_bytes row_of codec_row
 
 -- ---- the calls by shape
 
@@ -102,11 +106,11 @@ call_takes Declare bytes c rest fits e =
     let b = step (IsList IsColumn) (list_bytes column_bytes) (list_of column_of) (codec_list IsColumn column_bytes column_of codec_column) (λ columns. Ok (call.Declare a.value columns.0, columns.1)) a.rest (c, rest) a.takes.are_bytes a.goes_on in
     taken Declare bytes (call.Declare a.value b.value) b.rest c rest (record { takes = Takes-then bytes (counted a.value) a.rest (list_bytes column_bytes b.value) b.rest a.takes b.takes; is = (a.is, b.is); numbered = refl {a = 3} }) b.goes_on
 call_takes Rows bytes c rest fits e =
-    let a = step IsText counted text_of codec_text (λ name. option_of name.1 >>= λ after. number_of after.1 >>= λ limit. Ok (call.Rows name.0 after.0 limit.0, limit.1)) bytes (c, rest) fits e in
-    let b = step (λ o. IfSome o (IsList IsValue)) option_bytes option_of codec_option (λ after. number_of after.1 >>= λ limit. Ok (call.Rows a.value after.0 limit.0, limit.1)) a.rest (c, rest) a.takes.are_bytes a.goes_on in
+    let a = step IsText counted text_of codec_text (λ name. option_of row_of name.1 >>= λ after. number_of after.1 >>= λ limit. Ok (call.Rows name.0 after.0 limit.0, limit.1)) bytes (c, rest) fits e in
+    let b = step (λ o. IfSome o (IsList IsValue)) (option_bytes row_bytes) (option_of row_of) codec_key (λ after. number_of after.1 >>= λ limit. Ok (call.Rows a.value after.0 limit.0, limit.1)) a.rest (c, rest) a.takes.are_bytes a.goes_on in
     let d = step (λ n. n ≤ MAX_CONTENT_LEN) varint number_of codec_number (λ limit. Ok (call.Rows a.value b.value limit.0, limit.1)) b.rest (c, rest) b.takes.are_bytes b.goes_on in
-    let ab = Takes-then bytes (counted a.value) a.rest (option_bytes b.value) b.rest a.takes b.takes in
-    taken Rows bytes (call.Rows a.value b.value d.value) d.rest c rest (record { takes = Takes-then bytes (counted a.value ++ option_bytes b.value) b.rest (varint d.value) d.rest ab d.takes; is = (a.is, b.is, d.is); numbered = refl {a = 5} }) d.goes_on
+    let ab = Takes-then bytes (counted a.value) a.rest (option_bytes row_bytes b.value) b.rest a.takes b.takes in
+    taken Rows bytes (call.Rows a.value b.value d.value) d.rest c rest (record { takes = Takes-then bytes (counted a.value ++ option_bytes row_bytes b.value) b.rest (varint d.value) d.rest ab d.takes; is = (a.is, b.is, d.is); numbered = refl {a = 5} }) d.goes_on
 call_takes Update bytes c rest fits e =
     let a = step IsText counted text_of codec_text (λ name. row_of name.1 >>= λ key. row_of key.1 >>= λ row. Ok (call.Update name.0 key.0 row.0, row.1)) bytes (c, rest) fits e in
     let b = step (IsList IsValue) row_bytes row_of codec_row (λ key. row_of key.1 >>= λ row. Ok (call.Update a.value key.0 row.0, row.1)) a.rest (c, rest) a.takes.are_bytes a.goes_on in
@@ -180,9 +184,9 @@ call_again (call.Declare name columns) rest is =
 call_again (call.Get name key) rest is = rw (append_assoc (counted name) (row_bytes key) rest, codec_text.again name (row_bytes key ++ rest) is.0, codec_row.again key rest is.1) refl
 call_again (call.Rows name after limit) rest is =
     rw (
-      regrouped (counted name) (option_bytes after) (varint limit) rest,
-      codec_text.again name (option_bytes after ++ (varint limit ++ rest)) is.0,
-      codec_option.again after (varint limit ++ rest) is.1,
+      regrouped (counted name) (option_bytes row_bytes after) (varint limit) rest,
+      codec_text.again name (option_bytes row_bytes after ++ (varint limit ++ rest)) is.0,
+      codec_key.again after (varint limit ++ rest) is.1,
       codec_number.again limit rest is.2,
     ) refl
 call_again (call.Count name) rest is = rw (codec_text.again name rest is) refl

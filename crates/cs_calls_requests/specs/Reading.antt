@@ -28,7 +28,7 @@ call_of Declare bytes = do
   Ok (call.Declare name.0 columns.0, columns.1)
 call_of Rows bytes = do
   name ← text_of bytes
-  after ← option_of name.1
+  after ← option_of row_of name.1
   limit ← number_of after.1
   Ok (call.Rows name.0 after.0 limit.0, limit.1)
 call_of Update bytes = do

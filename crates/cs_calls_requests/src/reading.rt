@@ -10,8 +10,8 @@ ghost use Rattle.cs_calls_requests.specs.Reading.{call_of, call_at, call_in, who
 use crate::call::Call;
 use crate::kind::{Kind, RowKind, TableKind};
 use cs_calls_parts::{
-    CallError, CallFaultKind, Choices, Columns, Unread, read_count, read_file, read_key_or_none,
-    read_list, read_noop, read_policy, read_row, read_text, refuse,
+    CallError, CallFaultKind, Choices, Columns, Unread, read_count, read_file, read_list,
+    read_noop, read_option, read_policy, read_row, read_text, refuse,
 };
 use cs_value::{FieldFaultKind, OrNoMemory, Row, Text};
 use std::alloc::Global;
@@ -143,7 +143,7 @@ fn read_rows(alloc: Global, bytes: &[u8]) -> Result<(Call, &[u8]), Unread>
     ensures { Gives (λ r. (r.0, r.1.now)) result (call_of RowsKind bytes.now) }
 {
     let (table, rest) = read_text(alloc, bytes)?;
-    let (after, rest) = read_key_or_none(alloc, rest)?;
+    let (after, rest) = read_option(alloc, rest)?;
     let (limit, rest) = read_count(rest)?;
     let call = Call::Rows {
         table,

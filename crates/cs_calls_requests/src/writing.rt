@@ -9,7 +9,7 @@ use crate::call::Call;
 use crate::kind::number;
 use cs_apply_rows::Noop;
 use cs_calls_parts::{
-    write_file, write_key_or_none, write_list, write_noop, write_policy, write_row, write_text,
+    write_file, write_list, write_noop, write_option, write_policy, write_row, write_text,
 };
 use cs_value::{Bytes, NoMemory, Row, Text, varint_write};
 
@@ -82,7 +82,7 @@ fn append_parts(out: &mut Vec<u8>, call: &Call) -> Result<(), NoMemory>
             limit,
         } => {
             write_text(out, table)?;
-            write_key_or_none(out, after)?;
+            write_option(out, after)?;
             varint_write(out, *limit)
         }
         Call::Update { table, key, row } => {

@@ -1,10 +1,13 @@
 //! Tests of the public calls on values, changesets and files: of what no contract and no line of a script says.
 //!
 //! `values` has numbers, texts, rows and keys, `entries` the items of a file and net changes, `files` printed texts,
-//! `faults` and `refusals` the numbers, names and texts of faults, `requests` calls of stores, and `calling` the
-//! callers that `CALLING.md` of `cs_wire` and of `cs_group` shows. No crate with SQL is linked.
+//! `faults` and `refusals` the numbers, names and texts of faults, `requests` and `answers` calls of stores and what
+//! they are answered, and `calling` the callers that `CALLING.md` of `cs_wire` and of `cs_group` shows. No crate with
+//! SQL is linked.
 #![tactic(auto)]
 
+#[cfg(test)]
+mod answers;
 #[cfg(test)]
 mod calling;
 #[cfg(test)]

@@ -1,0 +1,26 @@
+//! What a store answers to calls, and the bytes of each answer.
+//!
+//! ```rust
+//! let answer = answer_read(alloc, b"\x05\x00\x00\x00\x00\x00\x00\x00\x07")?;
+//! assert!(rt; matches!(&answer, Answer::Number(7)));
+//! answer_write(&mut out, &answer)?;
+//! ```
+//!
+//! `answer` has the answers, `conflicts` the conflicts in them, `lists` their lists, `reading` reads answers, and
+//! `writing` writes them. Their parts are those of [`cs_calls_parts`].
+#![tactic(auto)]
+
+mod answer;
+mod conflicts;
+mod laws;
+mod lists;
+mod reading;
+mod writing;
+
+pub use answer::{Answer, Refused, Reported};
+pub use conflicts::{FoundConflict, MetConflict};
+pub use cs_calls_parts::{CallError, CallFault, CallFaultKind, Column, Columns};
+pub use laws::answer_bytes_law;
+pub use lists::{FoundConflicts, MetConflicts, Names, RowList};
+pub use reading::answer_read;
+pub use writing::answer_write;
