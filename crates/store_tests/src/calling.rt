@@ -6,6 +6,7 @@ ghost use Rattle.cs_value.specs.State.{rows_at};
 ghost use Rattle.cs_store.specs.Store.{tables_in};
 
 use crate::rows::{Call, edit_of, end, rows_of, store_of};
+use crate::session::{attached, begun, undone};
 use crate::{DELETE, INSERT, UPDATE};
 use cs_apply::{
     ApplyFault, Choice, Conflict, Noop, Policy, Report, apply, apply_in_transaction,
@@ -15,8 +16,9 @@ use cs_session::{Session, SessionFault, runs_law};
 use cs_store::{Edit, Rows, Store, StoreError, Transaction, edit_in};
 use cs_value::{OwnedValue, Row, Value};
 use cs_wire::write;
-use sqlite::Alter;
+use sqlite::{Alter, MemStore};
 use std::alloc::Global;
+use std::process::Abort;
 
 /// Inserts the row of a key into t.
 fn insert<B: Rows>(alloc: Global, rows: &mut B, key: i64) -> Result<(), StoreError> {
@@ -153,21 +155,35 @@ fn record<S: Alter + Drop>(
     Ok(write(alloc, &changeset)?)
 }
 
+/// Inserts (1, 'x') in a transaction, and returns whether the session has the file of that.
+fn records_an_insert(
+    rt: &(impl Abort + AllocGlobal),
+    transaction: &mut Transaction<MemStore>,
+    session: &mut Session,
+) -> bool {
+    let edits = [edit_of(rt, Call::Insert("t", &[Value::Int(1), Value::Text("x")]))];
+    let file = record(rt.alloc(), transaction, session, &edits);
+    file.expect(rt, "no refusal").as_slice() == INSERT
+}
+
+/// Reverts the insertion in a transaction, and returns the number of bytes of the session's file.
+fn reverts_an_insert(
+    rt: &(impl Abort + AllocGlobal),
+    transaction: &mut Transaction<MemStore>,
+    session: &mut Session,
+) -> usize {
+    let reverted = session.revert_in_transaction(rt.alloc(), transaction, INSERT);
+    assert!(rt; reverted.expect(rt, "no refusal").written.len() == 1);
+    let file = record(rt.alloc(), transaction, session, &[]);
+    file.expect(rt, "no refusal").len()
+}
+
 #[test]
 fn records_a_transaction(rt: HostRuntime) {
-    let (mut store, mut session) = (store_of(&rt, &[false, false]), Session::new(rt.alloc()));
-    let attached = session.attach(rt.alloc(), &mut store, "t");
-    attached.expect(&rt, "a table");
-    let Ok(mut transaction) = store.into_transaction() else {
-        panic!(rt; "refused");
-    };
-    let edits = [edit_of(&rt, Call::Insert("t", &[Value::Int(1), Value::Text("x")]))];
-    let file = record(rt.alloc(), &mut transaction, &mut session, &edits);
-    assert!(rt; file.expect(&rt, "no refusal").as_slice() == INSERT);
-    let reverted = session.revert_in_transaction(rt.alloc(), &mut transaction, INSERT);
-    assert!(rt; reverted.expect(&rt, "no refusal").written.len() == 1);
-    let rest = record(rt.alloc(), &mut transaction, &mut session, &[]);
-    assert!(rt; rest.expect(&rt, "no refusal").is_empty());
+    let (store, mut session) = attached(&rt);
+    let mut transaction = begun(&rt, store);
+    assert!(rt; records_an_insert(&rt, &mut transaction, &mut session));
+    assert!(rt; reverts_an_insert(&rt, &mut transaction, &mut session) == 0);
     end(transaction.roll_back());
 }
 
@@ -190,27 +206,30 @@ fn commit_noted<S: Alter + Drop>(
 
 #[test]
 fn merges_what_a_transaction_noted(rt: HostRuntime) {
-    let (mut store, mut session) = (store_of(&rt, &[false, false]), Session::new(rt.alloc()));
-    let attached = session.attach(rt.alloc(), &mut store, "t");
-    attached.expect(&rt, "a table");
+    let (store, session) = attached(&rt);
     let mut during = session.unwritten(rt.alloc()).expect(&rt, "memory");
-    let Ok(mut transaction) = store.into_transaction() else {
-        panic!(rt; "refused");
-    };
-    let edits = [edit_of(&rt, Call::Insert("t", &[Value::Int(1), Value::Text("x")]))];
-    let file = record(rt.alloc(), &mut transaction, &mut during, &edits);
-    assert!(rt; file.expect(&rt, "no refusal").as_slice() == INSERT);
-    let Ok(merged) = session.merge(rt.alloc(), &during) else {
-        panic!(rt; "refused");
-    };
-    let session = merged.forget();
-    assert!(rt; session.is_empty());
-    let Ok((session, mut store)) = commit_noted(rt.alloc(), session, &during, transaction) else {
-        panic!(rt; "refused");
-    };
-    let undone = session.undo(rt.alloc(), &mut store);
-    assert!(rt; undone.expect(&rt, "no refusal").written.len() == 1);
-    end(store);
+    let mut transaction = begun(&rt, store);
+    assert!(rt; records_an_insert(&rt, &mut transaction, &mut during));
+    match commit_noted(rt.alloc(), session, &during, transaction) {
+        Ok((session, mut store)) => {
+            assert!(rt; undone(&rt, &session, &mut store) == 1);
+            end(store);
+        }
+        Err(_) => panic!(rt; "refused"),
+    }
+}
+
+#[test]
+fn forgets_what_a_transaction_noted(rt: HostRuntime) {
+    let (store, session) = attached(&rt);
+    let mut during = session.unwritten(rt.alloc()).expect(&rt, "memory");
+    let mut transaction = begun(&rt, store);
+    assert!(rt; records_an_insert(&rt, &mut transaction, &mut during));
+    end(transaction.roll_back());
+    match session.merge(rt.alloc(), &during) {
+        Ok(merged) => assert!(rt; merged.forget().is_empty()),
+        Err(_) => panic!(rt; "refused"),
+    }
 }
 
 /// Carries out edits, or undoes all that the session noted where one of them is refused.

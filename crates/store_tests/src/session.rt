@@ -4,7 +4,7 @@ use crate::rows::{Call, edit_of, end, names, rows_of, store_of};
 use crate::{INSERT, UPDATE};
 use cs_apply::{Choice, Noop};
 use cs_session::{Session, SessionFault};
-use cs_store::Store;
+use cs_store::{Store, Transaction};
 use cs_value::{Fault, Value};
 use cs_wire::write;
 use sqlite::{Alter, MemStore};
@@ -18,15 +18,38 @@ fn code_of<T: Drop, E: Fault + Drop>(answer: Result<T, E>) -> u8 {
     }
 }
 
-/// Returns a session with t of a store that has ended.
-fn session_alone(rt: &(impl Abort + AllocGlobal)) -> Session {
+/// Returns a store with t, and a session to which t is attached.
+pub(crate) fn attached(rt: &(impl Abort + AllocGlobal)) -> (Store<MemStore>, Session) {
     let mut store = store_of(rt, &[false, false]);
     let mut session = Session::new(rt.alloc());
-    session
-        .attach(rt.alloc(), &mut store, "t")
-        .expect(rt, "a table");
+    let answer = session.attach(rt.alloc(), &mut store, "t");
+    answer.expect(rt, "a table");
+    (store, session)
+}
+
+/// Returns a session with t of a store that has ended.
+fn session_alone(rt: &(impl Abort + AllocGlobal)) -> Session {
+    let (store, session) = attached(rt);
     end(store);
     session
+}
+
+/// Returns a transaction of a store.
+pub(crate) fn begun(rt: &impl Abort, store: Store<MemStore>) -> Transaction<MemStore> {
+    match store.into_transaction() {
+        Ok(transaction) => transaction,
+        Err(_) => panic!(rt; "refused"),
+    }
+}
+
+/// Returns the number of keys that an undo writes.
+pub(crate) fn undone(
+    rt: &(impl Abort + AllocGlobal),
+    session: &Session,
+    store: &mut Store<MemStore>,
+) -> usize {
+    let undone = session.undo(rt.alloc(), store).expect(rt, "no refusal");
+    undone.written.len()
 }
 
 /// Has a session carry out an edit, and returns the code of the refusal, or 0.
@@ -231,23 +254,28 @@ fn names_refusals_of_sessions(rt: HostRuntime) {
     assert!(rt; wrong.class() == 1 && wrong.name() == "WrongStore");
 }
 
-#[test]
-fn undoes_what_a_transaction_applied(rt: HostRuntime) {
-    let (mut store, mut session) = (store_of(&rt, &[false, false]), Session::new(rt.alloc()));
-    let attached = session.attach(rt.alloc(), &mut store, "t");
-    attached.expect(&rt, "a table");
-    let Ok(mut transaction) = store.into_transaction() else {
-        panic!(rt; "refused");
-    };
+/// Applies the INSERT in a transaction, and returns the store with it.
+fn applied(
+    rt: &(impl Abort + AllocGlobal),
+    store: Store<MemStore>,
+    session: &mut Session,
+) -> Store<MemStore> {
+    let mut transaction = begun(rt, store);
     let (rows, noop) = (&mut transaction, Noop::Report);
     let applied = session.apply_in_transaction(rt.alloc(), rows, INSERT, noop, &|_| Choice::Abort);
-    assert!(rt; applied.expect(&rt, "no refusal").written.len() == 1);
-    let Ok(mut store) = transaction.commit() else {
-        panic!(rt; "refused");
-    };
+    assert!(rt; applied.expect(rt, "no refusal").written.len() == 1);
+    match transaction.commit() {
+        Ok(store) => store,
+        Err(_) => panic!(rt; "refused"),
+    }
+}
+
+#[test]
+fn undoes_what_a_transaction_applied(rt: HostRuntime) {
+    let (store, mut session) = attached(&rt);
+    let mut store = applied(&rt, store, &mut session);
     let reverted = session.revert(rt.alloc(), &mut store, INSERT);
     assert!(rt; reverted.expect(&rt, "no refusal").written.len() == 1);
-    let undone = session.undo(rt.alloc(), &mut store);
-    assert!(rt; undone.expect(&rt, "no refusal").written.is_empty());
+    assert!(rt; undone(&rt, &session, &mut store) == 0);
     end(store);
 }
