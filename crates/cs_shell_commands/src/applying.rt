@@ -1,5 +1,4 @@
 //! The command that applies a file to a store.
-ghost use Rattle.std.specs.Prelude.{◌≡◌};
 ghost use Rattle.cs_files.specs.Calls.{Writes};
 ghost use Rattle.cs_shell_replies.specs.Replies.{reply_of, reply_text};
 ghost use Rattle.cs_shell_commands.specs.Applies.{Applies, AppliesInFolder, AppliesInMemory, EndsApply, TellsReply};

@@ -1,5 +1,4 @@
 //! What lines do with the session of a script.
-ghost use Rattle.std.specs.Prelude.{◌≡◌};
 ghost use Rattle.sqlite.specs.Held.{state};
 ghost use Rattle.cs_value.specs.State.{State};
 ghost use Rattle.cs_shell_replies.specs.Replies.{answer_of};

@@ -9,7 +9,7 @@ ghost use Rattle.cs_files.specs.Told.{has_failed, known};
 ghost use Rattle.cs_shell_replies.specs.Replies.{Reply as ReplyData, Refused, answer_of};
 ghost use Rattle.cs_shell_script.specs.Runs.{Runs};
 ghost use Rattle.cs_shell_script.specs.Progress.{Holds, IsFresh, running, EndsLine, Advances, Breaks, Finishes};
-ghost use Rattle.cs_shell_script.specs.Progress.{Unfinished, HasRead, ReadsText, status_of};
+ghost use Rattle.cs_shell_script.specs.Progress.{Unfinished, ReadsText, status_of};
 
 use crate::reader::LineReader;
 use cs_files::{OutputFault, Told};
