@@ -55,7 +55,7 @@ SHAPES = (
 
 
 def keys_from(shape: Shape, first: int, count: int) -> list[int]:
-    """Return so many keys. Crafted ones fall into one bucket of a concatenation (`cs_file_tables`)."""
+    """Return so many keys. Crafted ones fall into one bucket of a concatenation (`cs_file_scan`)."""
     if shape.order == "crafted":
         buckets = count // 30 * 30 + 31
         return [key * buckets for key in range(count)]

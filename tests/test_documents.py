@@ -4,7 +4,7 @@ leads to a file.
 
 The tag of a block says how: `console` blocks are commands and what they print, `python` and `c`
 blocks are programs, whose output is the `text` block after them or the comments of their last
-lines; `rust` blocks stand in a crate's code, and `sql` lines in that of `cs_store_records`. The
+lines; `rust` blocks stand in a crate's code, and `sql` lines in that of `cs_store_sql`. The
 `text` block of the page of calls stands in their tests. The program and the libraries for C and
 Python have to be built first, as the gate does.
 """

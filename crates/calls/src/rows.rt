@@ -1,6 +1,6 @@
 //! Calls on tables in memory.
 
-use cs_apply_rows::{ApplyFault, Choice, Direction, Noop, run_in};
+use cs_apply_engine::{ApplyFault, Choice, Direction, Noop, run_in};
 use cs_rows::{Edit, MemRows, Rows, StoreError, edit_in};
 use cs_value::{Key, NoMemory, OwnedValue, Row};
 use std::alloc::Global;

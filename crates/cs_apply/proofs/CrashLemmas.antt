@@ -5,11 +5,11 @@ use Rattle.cs_value.specs.State as tables
 use Rattle.cs_store.specs.Crash.{CanBegin, IsAtomic}
 use Rattle.cs_store.specs.Transacts.{Transacts}
 use Rattle.cs_store.proofs.CrashLemmas.{atomic_weaker}
-use Rattle.cs_apply_conflicts.specs.declared.conflict.Choice.{Choice}
-use Rattle.cs_apply_conflicts.specs.declared.conflict.Noop.{Noop}
-use Rattle.cs_apply_rows.specs.declared.conflict.Conflict.{Conflict}
-use Rattle.cs_apply_rows.specs.declared.running.Direction.{Direction}
-use Rattle.cs_apply_rows.specs.Running.{Handler}
+use Rattle.cs_apply_conflict_kinds.specs.declared.conflict.Choice.{Choice}
+use Rattle.cs_apply_conflict_kinds.specs.declared.conflict.Noop.{Noop}
+use Rattle.cs_apply_engine.specs.declared.conflict.Conflict.{Conflict}
+use Rattle.cs_apply_engine.specs.declared.running.Direction.{Direction}
+use Rattle.cs_apply_engine.specs.Running.{Handler}
 use Rattle.cs_apply.specs.Crash.{AppliesInto}
 use Rattle.cs_apply.proofs.RevertLemmas.{with_weaker}
 

@@ -10,25 +10,25 @@ use Rattle.cs_value.specs.State.{State, WrittenData, IsState}
 use Rattle.cs_store.specs.Store.{RefusesShut, tables_in}
 use Rattle.cs_wire.specs.Changeset.{GroupData}
 use Rattle.cs_wire.specs.Laws.{ChangesetFiles}
-use Rattle.cs_apply_conflicts.specs.declared.conflict.Kind.{Kind}
-use Rattle.cs_apply_conflicts.specs.declared.conflict.Choice.{Choice}
-use Rattle.cs_apply_conflicts.specs.declared.conflict.Choice.TheVariants as choice
-use Rattle.cs_apply_conflicts.specs.declared.conflict.Noop.{Noop}
-use Rattle.cs_apply_conflicts.specs.declared.conflict.Noop.TheVariants.{Report as Reported}
+use Rattle.cs_apply_conflict_kinds.specs.declared.conflict.Kind.{Kind}
+use Rattle.cs_apply_conflict_kinds.specs.declared.conflict.Choice.{Choice}
+use Rattle.cs_apply_conflict_kinds.specs.declared.conflict.Choice.TheVariants as choice
+use Rattle.cs_apply_conflict_kinds.specs.declared.conflict.Noop.{Noop}
+use Rattle.cs_apply_conflict_kinds.specs.declared.conflict.Noop.TheVariants.{Report as Reported}
 use Rattle.cs_group.specs.Inverse.{IsInverse}
-use Rattle.cs_apply_conflicts.specs.Applying.{PlacedEntry, Choices, applicable, placed_kind, heeded, met_at, met_under, IsClean, IsApplied, AreApplied, omit_all}
-use Rattle.cs_apply_conflicts.proofs.ApplyLemmas.{none_met, applied_once, applied_reverts}
-use Rattle.cs_apply_rows.proofs.HeededLemmas.{heeded_all}
-use Rattle.cs_apply_rows.specs.declared.conflict.Conflict.{Conflict}
-use Rattle.cs_apply_rows.specs.declared.conflict.Met.{Met}
-use Rattle.cs_apply_rows.specs.declared.report.Report.{Report}
-use Rattle.cs_apply_rows.specs.declared.report.Summary.{Summary}
-use Rattle.cs_apply_rows.specs.declared.running.Direction.{Direction}
-use Rattle.cs_apply_rows.specs.declared.running.Direction.TheVariants.{Forward, Inverse}
-use Rattle.cs_apply_rows.specs.declared.fault.ApplyFault.{ApplyFault}
-use Rattle.cs_apply_rows.specs.declared.fault.ApplyFault.TheVariants as fault
-use Rattle.cs_apply_rows.specs.Report.{conflict_of, met_of}
-use Rattle.cs_apply_rows.specs.Running.{Handler, IsReadAs, GoesOn, Applies, AppliesCounted, AppliesWith, EndsAt, Refuses, AlwaysAborts, Leads, IsResource}
+use Rattle.cs_apply_conflict_kinds.specs.Applying.{PlacedEntry, Choices, applicable, placed_kind, heeded, met_at, met_under, IsClean, IsApplied, AreApplied, omit_all}
+use Rattle.cs_apply_conflict_kinds.proofs.ApplyLemmas.{none_met, applied_once, applied_reverts}
+use Rattle.cs_apply_engine.proofs.HeededLemmas.{heeded_all}
+use Rattle.cs_apply_engine.specs.declared.conflict.Conflict.{Conflict}
+use Rattle.cs_apply_engine.specs.declared.conflict.Met.{Met}
+use Rattle.cs_apply_engine.specs.declared.report.Report.{Report}
+use Rattle.cs_apply_engine.specs.declared.report.Summary.{Summary}
+use Rattle.cs_apply_engine.specs.declared.running.Direction.{Direction}
+use Rattle.cs_apply_engine.specs.declared.running.Direction.TheVariants.{Forward, Inverse}
+use Rattle.cs_apply_engine.specs.declared.fault.ApplyFault.{ApplyFault}
+use Rattle.cs_apply_engine.specs.declared.fault.ApplyFault.TheVariants as fault
+use Rattle.cs_apply_engine.specs.Report.{conflict_of, met_of}
+use Rattle.cs_apply_engine.specs.Running.{Handler, IsReadAs, GoesOn, Applies, AppliesCounted, AppliesWith, EndsAt, Refuses, AlwaysAborts, Leads, IsResource}
 
 -- ---- lists
 

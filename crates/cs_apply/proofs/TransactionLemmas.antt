@@ -9,17 +9,17 @@ use Rattle.cs_store.specs.Faults as stores
 use Rattle.cs_store.specs.Faults.{refused_for}
 use Rattle.cs_store.specs.Within.{Within}
 use Rattle.cs_rows.specs.declared.fault.StoreError.{StoreError}
-use Rattle.cs_apply_conflicts.specs.declared.conflict.Choice.{Choice}
-use Rattle.cs_apply_conflicts.specs.declared.conflict.Noop.{Noop}
-use Rattle.cs_apply_rows.specs.declared.conflict.Conflict.{Conflict}
-use Rattle.cs_apply_rows.specs.declared.fault.ApplyFault.{ApplyFault}
-use Rattle.cs_apply_rows.specs.declared.fault.ApplyFault.TheVariants.{Store, NoMemory}
-use Rattle.cs_apply_rows.specs.declared.report.Report.{Report}
-use Rattle.cs_apply_rows.specs.declared.running.Direction.{Direction}
-use Rattle.cs_apply_rows.specs.declared.running.Direction.TheVariants.{Forward}
-use Rattle.cs_apply_rows.specs.Faults.{fault_of}
-use Rattle.cs_apply_rows.specs.Running.{Handler, Applies, Leads, Refuses, IsNamed, is_own, is_answered}
-use Rattle.cs_apply_rows.specs.Steps.{IsStoreRefusal}
+use Rattle.cs_apply_conflict_kinds.specs.declared.conflict.Choice.{Choice}
+use Rattle.cs_apply_conflict_kinds.specs.declared.conflict.Noop.{Noop}
+use Rattle.cs_apply_engine.specs.declared.conflict.Conflict.{Conflict}
+use Rattle.cs_apply_engine.specs.declared.fault.ApplyFault.{ApplyFault}
+use Rattle.cs_apply_engine.specs.declared.fault.ApplyFault.TheVariants.{Store, NoMemory}
+use Rattle.cs_apply_engine.specs.declared.report.Report.{Report}
+use Rattle.cs_apply_engine.specs.declared.running.Direction.{Direction}
+use Rattle.cs_apply_engine.specs.declared.running.Direction.TheVariants.{Forward}
+use Rattle.cs_apply_engine.specs.Faults.{fault_of}
+use Rattle.cs_apply_engine.specs.Running.{Handler, Applies, Leads, Refuses, IsNamed, is_own, is_answered}
+use Rattle.cs_apply_engine.specs.Steps.{IsStoreRefusal}
 use Rattle.cs_apply.specs.Crash.{AppliesInto}
 use Rattle.cs_apply.proofs.RevertLemmas.{leads_clean, with_weaker}
 

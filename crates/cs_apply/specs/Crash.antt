@@ -1,10 +1,10 @@
 -- What an apply commits.
 use Rattle.std.specs.Prelude.{ℕ, List}
 use Rattle.cs_value.specs.State.{State, WrittenData}
-use Rattle.cs_apply_conflicts.specs.declared.conflict.Noop.{Noop}
-use Rattle.cs_apply_rows.specs.declared.conflict.Met.{Met}
-use Rattle.cs_apply_rows.specs.declared.running.Direction.{Direction}
-use Rattle.cs_apply_rows.specs.Running.{Handler, AppliesWith}
+use Rattle.cs_apply_conflict_kinds.specs.declared.conflict.Noop.{Noop}
+use Rattle.cs_apply_engine.specs.declared.conflict.Met.{Met}
+use Rattle.cs_apply_engine.specs.declared.running.Direction.{Direction}
+use Rattle.cs_apply_engine.specs.Running.{Handler, AppliesWith}
 
 -- an apply of the file makes this state
 pub record AppliesInto (chooses : Handler) (noop : Noop) (file : List ℕ) (direction : Direction) (before after : State) :

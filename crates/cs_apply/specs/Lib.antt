@@ -1,6 +1,6 @@
 pub mod Crash
-pub use Rattle.cs_apply_rows.specs.Faults
-pub use Rattle.cs_apply_rows.specs.Report
-pub use Rattle.cs_apply_rows.specs.Running
-pub use Rattle.cs_apply_rows.specs.Steps
-pub use Rattle.cs_apply_rows.specs.Tally
+pub use Rattle.cs_apply_engine.specs.Faults
+pub use Rattle.cs_apply_engine.specs.Report
+pub use Rattle.cs_apply_engine.specs.Running
+pub use Rattle.cs_apply_engine.specs.Steps
+pub use Rattle.cs_apply_engine.specs.Tally

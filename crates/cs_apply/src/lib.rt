@@ -8,15 +8,15 @@
 //! revert(alloc, &mut store, file)?;
 //! ```
 //!
-//! `store` applies a file to the rows of a batch, by `cs_apply_rows`, and commits the batch or drops it. `transaction`
-//! applies one in a transaction that goes on. The names of `cs_apply_rows` are passed on. `CALLING.md`, next to this
+//! `store` applies a file to the rows of a batch, by `cs_apply_engine`, and commits the batch or drops it. `transaction`
+//! applies one in a transaction that goes on. The names of `cs_apply_engine` are passed on. `CALLING.md`, next to this
 //! folder, shows a caller.
 #![tactic(auto)]
 
 mod store;
 mod transaction;
 
-pub use cs_apply_rows::{
+pub use cs_apply_engine::{
     ApplyFault, Choice, Conflict, Direction, Kind, Met, Noop, Policy, Report, Summary,
     run_changeset_in, run_in,
 };

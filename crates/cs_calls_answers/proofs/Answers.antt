@@ -10,8 +10,8 @@ use Rattle.cs_value.proofs.ListLemmas.{AllByRecursion-weaker}
 use Rattle.cs_value.specs.declared.value.OwnedValue.{OwnedValue}
 use Rattle.cs_value.specs.Value.{AreBytes}
 use Rattle.cs_value.specs.Spelling.{counted}
-use Rattle.cs_apply_conflicts.specs.declared.conflict.Choice.{Choice}
-use Rattle.cs_apply_conflicts.specs.declared.conflict.Kind.{Kind}
+use Rattle.cs_apply_conflict_kinds.specs.declared.conflict.Choice.{Choice}
+use Rattle.cs_apply_conflict_kinds.specs.declared.conflict.Kind.{Kind}
 use Rattle.cs_calls_parts.specs.declared.fault.CallFaultKind.TheVariants.{UnknownAnswer, ExtraBytes}
 use Rattle.cs_calls_parts.specs.Spelling.{IsText, IsFile, IsList, IsColumn, list_bytes, row_bytes, option_bytes, wide_bytes, flag_bytes, kind_bytes, choice_bytes, column_bytes}
 use Rattle.cs_calls_parts.specs.Reading.{◌>>=◌, misread, counted_of, text_of, list_of, row_of, option_of, wide_of, flag_of, kind_of, choice_of, column_of}

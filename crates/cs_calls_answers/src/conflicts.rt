@@ -5,7 +5,7 @@ ghost use Rattle.cs_calls_parts.specs.Reading.{Gives};
 ghost use Rattle.cs_calls_answers.specs.Reading.{met_of, found_of};
 ghost use Rattle.cs_calls_answers.specs.Spelling.{met_bytes, found_bytes, MetCounts, FoundCounts};
 
-use cs_apply_conflicts::{Choice, Kind};
+use cs_apply_conflict_kinds::{Choice, Kind};
 use cs_calls_parts::{
     Part, Unread, read_choice, read_kind, read_number, read_option, read_row, read_text,
     write_choice, write_kind, write_number, write_option, write_row, write_text,

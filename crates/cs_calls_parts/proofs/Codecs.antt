@@ -3,8 +3,8 @@ use Rattle.std.proofs.Common.{◌≡◌, ℕ, zero, suc, ◌+◌, ◌%◌, ◌<�
 use Rattle.std.specs.Int.{w64, to_be_bytes, from_be_bytes}
 use Rattle.std.proofs.lemmas.Nat.{be_bytes_8, from_be_bytes-to_be_bytes_8}
 use Rattle.cs_value.proofs.ByteLists.{each-from_AreBytes}
-use Rattle.cs_apply_conflicts.specs.declared.conflict.Kind.{Kind}
-use Rattle.cs_apply_conflicts.specs.declared.conflict.Kind.TheVariants.{Data, NotFound, Conflict, Constraint}
+use Rattle.cs_apply_conflict_kinds.specs.declared.conflict.Kind.{Kind}
+use Rattle.cs_apply_conflict_kinds.specs.declared.conflict.Kind.TheVariants.{Data, NotFound, Conflict, Constraint}
 use Rattle.std.specs.Prelude.{IfSome, nat_lt, ◌==◌, if◌then◌else◌}
 use Rattle.std.specs.List.{flat_map, AllByRecursion}
 use Rattle.std.specs.Str.{is_utf8}
@@ -26,12 +26,12 @@ use Rattle.cs_value.proofs.ByteLists.{AreBytes-take, AreBytes-drop}
 use Rattle.cs_value.proofs.VarintLemmas.{number_takes as varint_takes, number_again as varint_again}
 use Rattle.cs_value.proofs.FieldTakes.{field_takes}
 use Rattle.cs_value.proofs.FieldAgain.{field_again}
-use Rattle.cs_apply_conflicts.specs.declared.conflict.Choice.{Choice}
-use Rattle.cs_apply_conflicts.specs.declared.conflict.Choice.TheVariants.{Omit, Replace, Abort}
-use Rattle.cs_apply_conflicts.specs.declared.conflict.Noop.{Noop}
-use Rattle.cs_apply_conflicts.specs.declared.conflict.Noop.TheVariants.{Report, Ignore}
-use Rattle.cs_apply_conflicts.specs.Conflicts.{choice_number}
-use Rattle.cs_apply_rows.specs.declared.policy.Policy.{Policy}
+use Rattle.cs_apply_conflict_kinds.specs.declared.conflict.Choice.{Choice}
+use Rattle.cs_apply_conflict_kinds.specs.declared.conflict.Choice.TheVariants.{Omit, Replace, Abort}
+use Rattle.cs_apply_conflict_kinds.specs.declared.conflict.Noop.{Noop}
+use Rattle.cs_apply_conflict_kinds.specs.declared.conflict.Noop.TheVariants.{Report, Ignore}
+use Rattle.cs_apply_conflict_kinds.specs.Conflicts.{choice_number}
+use Rattle.cs_apply_engine.specs.declared.policy.Policy.{Policy}
 use Rattle.cs_calls_parts.specs.declared.fault.CallFaultKind.TheVariants.{Field, BadByte}
 use Rattle.cs_calls_parts.specs.declared.fault.Misread.{Misread}
 use Rattle.cs_calls_parts.specs.declared.lists.Column.{Column}

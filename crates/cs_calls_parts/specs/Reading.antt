@@ -11,13 +11,13 @@ use Rattle.cs_value.specs.declared.value.OwnedField.{OwnedField}
 use Rattle.cs_value.specs.declared.value.OwnedField.TheVariants.{Undefined, Defined}
 use Rattle.cs_value.specs.Reading.{number_at, field_at}
 use Rattle.std.specs.Int.{w64, from_be_bytes}
-use Rattle.cs_apply_conflicts.specs.declared.conflict.Kind.{Kind}
-use Rattle.cs_apply_conflicts.specs.declared.conflict.Kind.TheVariants.{Data, NotFound, Conflict, Constraint}
-use Rattle.cs_apply_conflicts.specs.declared.conflict.Choice.{Choice}
-use Rattle.cs_apply_conflicts.specs.declared.conflict.Choice.TheVariants.{Omit, Replace, Abort}
-use Rattle.cs_apply_conflicts.specs.declared.conflict.Noop.{Noop}
-use Rattle.cs_apply_conflicts.specs.declared.conflict.Noop.TheVariants.{Report, Ignore}
-use Rattle.cs_apply_rows.specs.declared.policy.Policy.{Policy}
+use Rattle.cs_apply_conflict_kinds.specs.declared.conflict.Kind.{Kind}
+use Rattle.cs_apply_conflict_kinds.specs.declared.conflict.Kind.TheVariants.{Data, NotFound, Conflict, Constraint}
+use Rattle.cs_apply_conflict_kinds.specs.declared.conflict.Choice.{Choice}
+use Rattle.cs_apply_conflict_kinds.specs.declared.conflict.Choice.TheVariants.{Omit, Replace, Abort}
+use Rattle.cs_apply_conflict_kinds.specs.declared.conflict.Noop.{Noop}
+use Rattle.cs_apply_conflict_kinds.specs.declared.conflict.Noop.TheVariants.{Report, Ignore}
+use Rattle.cs_apply_engine.specs.declared.policy.Policy.{Policy}
 use Rattle.cs_calls_parts.specs.declared.fault.CallFault.{CallFault}
 use Rattle.cs_calls_parts.specs.declared.fault.CallFaultKind.{CallFaultKind}
 use Rattle.cs_calls_parts.specs.declared.fault.CallFaultKind.TheVariants.{Field, UndefinedField as UndefinedValue, BadByte}

@@ -6,13 +6,13 @@ use Rattle.cs_value.specs.declared.value.OwnedValue.{OwnedValue}
 use Rattle.cs_value.specs.Value.{AreBytes}
 use Rattle.cs_value.specs.Varint.{varint}
 use Rattle.cs_value.specs.Spelling.{counted, value_bytes}
-use Rattle.cs_apply_conflicts.specs.declared.conflict.Choice.{Choice}
-use Rattle.cs_apply_conflicts.specs.declared.conflict.Noop.{Noop}
-use Rattle.cs_apply_conflicts.specs.declared.conflict.Noop.TheVariants.{Report, Ignore}
-use Rattle.cs_apply_conflicts.specs.declared.conflict.Kind.{Kind}
-use Rattle.cs_apply_conflicts.specs.Conflicts.{choice_number, kind_number}
+use Rattle.cs_apply_conflict_kinds.specs.declared.conflict.Choice.{Choice}
+use Rattle.cs_apply_conflict_kinds.specs.declared.conflict.Noop.{Noop}
+use Rattle.cs_apply_conflict_kinds.specs.declared.conflict.Noop.TheVariants.{Report, Ignore}
+use Rattle.cs_apply_conflict_kinds.specs.declared.conflict.Kind.{Kind}
+use Rattle.cs_apply_conflict_kinds.specs.Conflicts.{choice_number, kind_number}
 use Rattle.std.specs.Int.{w64, to_be_bytes}
-use Rattle.cs_apply_rows.specs.declared.policy.Policy.{Policy}
+use Rattle.cs_apply_engine.specs.declared.policy.Policy.{Policy}
 use Rattle.cs_calls_parts.specs.declared.lists.Column.{Column}
 
 -- a name: UTF-8, at most 2147483647 bytes

@@ -1,7 +1,7 @@
 //! The lists of calls: columns and choices.
 ghost use Rattle.std.specs.Prelude.{◌≡◌};
 
-use cs_apply_rows::Choice;
+use cs_apply_engine::Choice;
 use cs_value::Text;
 use std::marker::Model;
 
@@ -54,7 +54,7 @@ pub struct Choices {
 
 impl Model for Choices {
     ghost use Rattle.std.specs.Prelude.{List};
-    ghost use Rattle.cs_apply_conflicts.specs.declared.conflict.Choice.{Choice};
+    ghost use Rattle.cs_apply_conflict_kinds.specs.declared.conflict.Choice.{Choice};
 
     ghost Value = { List Choice };
 

@@ -10,7 +10,7 @@ use crate::fault::Unread;
 use crate::lists::Column;
 use crate::spell::{write_choice, write_column, write_number, write_row, write_text, write_value};
 use crate::step::{read_choice, read_column, read_number, read_row, read_text, read_value};
-use cs_apply_rows::Choice;
+use cs_apply_engine::Choice;
 use cs_value::{NoMemory, OwnedValue, Row, Text};
 use std::alloc::Global;
 

@@ -9,8 +9,8 @@ ghost use Rattle.cs_calls_parts.specs.Spelling.{noop_bytes, policy_bytes, mark_o
 
 use crate::lists::Column;
 use crate::part::Part;
-use cs_apply_conflicts::Kind;
-use cs_apply_rows::{Choice, Noop, Policy};
+use cs_apply_conflict_kinds::Kind;
+use cs_apply_engine::{Choice, Noop, Policy};
 use cs_value::{Bytes, Field, NoMemory, OwnedValue, Row, Text, field_write, varint_write};
 
 /// Appends a count, and the bytes that it is of.

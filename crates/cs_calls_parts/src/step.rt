@@ -11,8 +11,8 @@ ghost use Rattle.cs_calls_parts.specs.Reading.{choice_of, noop_of, policy_of, wi
 use crate::fault::{CallFaultKind, Misread, Unread};
 use crate::lists::Column;
 use crate::part::Part;
-use cs_apply_conflicts::Kind;
-use cs_apply_rows::{Choice, Noop, Policy};
+use cs_apply_conflict_kinds::Kind;
+use cs_apply_engine::{Choice, Noop, Policy};
 use cs_value::{
     Bytes, Field, FieldFault, FieldFaultKind, OrNoMemory, OwnedValue, Row, Text, field_read,
     varint_read,

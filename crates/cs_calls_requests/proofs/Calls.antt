@@ -9,7 +9,7 @@ use Rattle.cs_value.specs.Value.{AreBytes, IsValue}
 use Rattle.cs_value.specs.Varint.{varint}
 use Rattle.cs_value.specs.Spelling.{counted}
 use Rattle.std.specs.List.{AllByRecursion}
-use Rattle.cs_apply_conflicts.specs.declared.conflict.Choice.{Choice}
+use Rattle.cs_apply_conflict_kinds.specs.declared.conflict.Choice.{Choice}
 use Rattle.cs_calls_requests.specs.declared.call.Call.{Call}
 use Rattle.cs_calls_requests.specs.declared.call.Call.TheVariants as call
 use Rattle.cs_calls_parts.specs.declared.fault.CallFaultKind.TheVariants.{ExtraBytes}

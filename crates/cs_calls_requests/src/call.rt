@@ -1,6 +1,6 @@
 //! What a host asks of a store.
 
-use cs_apply_rows::{Noop, Policy};
+use cs_apply_engine::{Noop, Policy};
 use cs_calls_parts::{Choices, Columns};
 use cs_value::{Bytes, Row, Text};
 

@@ -7,7 +7,7 @@ ghost use Rattle.cs_calls_requests.specs.Spelling.{HasCounts, call_bytes, parts_
 
 use crate::call::Call;
 use crate::kind::number;
-use cs_apply_rows::Noop;
+use cs_apply_engine::Noop;
 use cs_calls_parts::{
     write_file, write_list, write_noop, write_option, write_policy, write_row, write_text,
 };

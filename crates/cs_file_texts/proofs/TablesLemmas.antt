@@ -4,7 +4,7 @@ use Rattle.std.specs.List.{flat_map}
 use Rattle.std.proofs.lemmas.Grind.{flat_map-append}
 use Rattle.cs_wire_entries.specs.declared.entry.Entry.{Entry}
 use Rattle.cs_wire.specs.Changeset.{HeaderData, GroupData}
-use Rattle.cs_file_tables.specs.Tables.{TablesData, EntriesLeft}
+use Rattle.cs_file_scan.specs.Tables.{TablesData, EntriesLeft}
 use Rattle.cs_file_texts.specs.declared.told.Told.{Told}
 use Rattle.cs_file_texts.specs.Gathering.{Gathered}
 use Rattle.cs_file_texts.specs.declared.texts.form.Form.{Form}

@@ -1,7 +1,7 @@
 //! The readable texts of changesets.
 ghost use Rattle.std.specs.Prelude.{[], List};
 ghost use Rattle.cs_wire.specs.Changeset.{GroupData};
-ghost use Rattle.cs_file_tables.specs.Tables.{EntriesLeft};
+ghost use Rattle.cs_file_scan.specs.Tables.{EntriesLeft};
 ghost use Rattle.cs_file_texts.specs.Calls.{Writes};
 ghost use Rattle.cs_file_texts.specs.Texts.{dump_of, sql_of};
 ghost use Rattle.cs_file_texts.specs.Forms.{form_text};
@@ -18,7 +18,7 @@ mod tables;
 use crate::fault::OutputFault;
 use crate::gather::Gather;
 use crate::told::Told;
-use cs_file_tables::Tables;
+use cs_file_scan::Tables;
 use cs_wire::{Changeset, Group};
 pub use form::Form;
 use groups::add_groups;

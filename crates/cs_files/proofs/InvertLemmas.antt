@@ -8,8 +8,8 @@ use Rattle.cs_wire.specs.Entry.{IsEntry, entry_bytes}
 use Rattle.cs_wire.specs.Changeset.{HeaderData, GroupData, IsFileOf, IsGroup, header_bytes, entries_bytes, group_bytes, file_bytes}
 use Rattle.cs_wire.specs.Inverse.{IsInverseEntry}
 use Rattle.cs_wire.specs.Items.{FlaggedEntry}
-use Rattle.cs_file_tables.specs.Tables.{TablesData, EntriesLeft, IsNextEntry, IsNextTable}
-use Rattle.cs_file_tables.specs.Visits.{IsVisited, group_text}
+use Rattle.cs_file_scan.specs.Tables.{TablesData, EntriesLeft, IsNextEntry, IsNextTable}
+use Rattle.cs_file_scan.specs.Visits.{IsVisited, group_text}
 use Rattle.cs_wire.specs.Views.{inverse_entry}
 use Rattle.cs_wire.specs.declared.header.HeaderRef.{HeaderRef}
 use Rattle.cs_wire.specs.Headers.{header_of}

@@ -13,11 +13,11 @@ use Rattle.cs_wire_entries.specs.declared.entry.Change.TheVariants.{Insert}
 use Rattle.cs_wire_entries.specs.declared.entry.Entry.{Entry}
 use Rattle.cs_wire.specs.Entry.{entry_bytes, key_of}
 use Rattle.cs_wire.specs.Changeset.{HeaderData, GroupData, IsAccepted, IsChangeset, IsFileOf, IsGroup, entries_bytes, file_bytes, group_bytes, header_bytes}
-use Rattle.cs_file_tables.specs.Named.{NamedData, IsTableOf, AreListed, header_at, tables_at, no_table}
-use Rattle.cs_file_tables.specs.Tables.{TablesData, EntriesLeft}
+use Rattle.cs_file_scan.specs.Named.{NamedData, IsTableOf, AreListed, header_at, tables_at, no_table}
+use Rattle.cs_file_scan.specs.Tables.{TablesData, EntriesLeft}
 use Rattle.cs_wire.specs.Views.{IsIndexWhere}
 use Rattle.cs_wire_entries.proofs.EntryLemmas.{entry_bytes_some}
-use Rattle.cs_file_tables.proofs.NamedLemmas.{table_at, tables_length, no_group_named, group_named}
+use Rattle.cs_file_scan.proofs.NamedLemmas.{table_at, tables_length, no_group_named, group_named}
 use Rattle.cs_group.specs.Joining.{AgreesWith, AreJoinable, IsJoined, is_new, if_new, joined, joined_group, key_marks, some_group, table_name, with_text}
 use Rattle.cs_group.proofs.JoinLemmas.{agree_found, agrees_found, found_agrees, joined_is_changeset}
 use Rattle.cs_group.proofs.JoinLengths.{join_length}

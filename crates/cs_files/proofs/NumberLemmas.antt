@@ -3,7 +3,7 @@ use Rattle.std.proofs.Common.{◌≡◌, ℕ, List, [], ◌++◌, length, sym, a
 use Rattle.cs_wire.specs.declared.header.HeaderRef.{HeaderRef}
 use Rattle.cs_wire.specs.Changeset.{HeaderData, GroupData, IsFileOf, header_bytes, entries_bytes, group_bytes, file_bytes}
 use Rattle.cs_wire.specs.Headers.{header_of}
-use Rattle.cs_file_tables.specs.Tables.{TablesData, EntriesLeft, IsNextTable}
+use Rattle.cs_file_scan.specs.Tables.{TablesData, EntriesLeft, IsNextTable}
 use Rattle.cs_group.specs.Numbering.{numbered, numbered_header, numbered_group}
 use Rattle.cs_group.proofs.NumberingLemmas.{IsChangeset-numbered, length_stays}
 use Rattle.cs_files.specs.Files.{Numbers}

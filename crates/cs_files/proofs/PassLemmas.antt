@@ -7,9 +7,9 @@ use Rattle.cs_wire_entries.specs.declared.entry.Entry.{Entry}
 use Rattle.cs_wire.specs.declared.header.HeaderRef.{HeaderRef}
 use Rattle.cs_wire.specs.Changeset.{GroupData}
 use Rattle.cs_wire.specs.Items.{FlaggedEntry}
-use Rattle.cs_file_tables.specs.Tables.{TablesData, EntriesLeft, IsNextEntry, IsNextTable}
-use Rattle.cs_file_tables.proofs.TablesLemmas.{PassedEntries, PassedEntries-next, PassedEntries-all}
-use Rattle.cs_file_tables.proofs.VisitLemmas.{more_written}
+use Rattle.cs_file_scan.specs.Tables.{TablesData, EntriesLeft, IsNextEntry, IsNextTable}
+use Rattle.cs_file_scan.proofs.TablesLemmas.{PassedEntries, PassedEntries-next, PassedEntries-all}
+use Rattle.cs_file_scan.proofs.VisitLemmas.{more_written}
 
 -- ---- things of a list
 

@@ -7,7 +7,7 @@ use Rattle.cs_wire_entries.specs.declared.entry.Entry.{Entry}
 use Rattle.cs_wire.specs.declared.header.HeaderRef.{HeaderRef}
 use Rattle.cs_wire.specs.Changeset.{HeaderData, GroupData, IsChangeset, IsFileOf, IsGroup, entries_bytes, file_bytes, group_bytes, header_bytes}
 use Rattle.cs_wire.specs.Headers.{header_of}
-use Rattle.cs_file_tables.specs.Tables.{TablesData, EntriesLeft, IsNextTable}
+use Rattle.cs_file_scan.specs.Tables.{TablesData, EntriesLeft, IsNextTable}
 use Rattle.cs_files.proofs.PassLemmas.{WritesTables, WritesTables-next}
 use Rattle.cs_files.specs.Selecting.{Selects, is_among, selected}
 

@@ -1,7 +1,7 @@
 -- What is written of a join. No public contract names this: what it is for is said by Files.
 use Rattle.std.specs.Prelude.{◌≡◌, ℕ, List, [], Option, None, Some}
 use Rattle.cs_wire.specs.Changeset.{GroupData}
-use Rattle.cs_file_tables.specs.Tables.{TablesData, EntriesLeft}
+use Rattle.cs_file_scan.specs.Tables.{TablesData, EntriesLeft}
 
 -- the bytes of a thing, if there is one
 abbrev pub some_bytes : {X : Type 0} → (X → List ℕ) → Option X → List ℕ

@@ -8,7 +8,7 @@ ghost use Rattle.cs_files.specs.declared.chaining.ChainError.TheVariants.{Length
 
 use crate::fault::{ToolFault, first_fault};
 use crate::files::concat_bytes;
-use cs_file_tables::Tables;
+use cs_file_scan::Tables;
 use std::alloc::Global;
 use thiserror::Error;
 

@@ -12,7 +12,7 @@ use crate::fault::{PrintError, ToolFault, first_fault, second_fault, text_fault}
 use crate::inverting::{Inverting, write_inverse};
 use crate::joining::join_tables;
 use crate::numbering::write_numbered;
-use cs_file_tables::{NamedTables, Tables};
+use cs_file_scan::{NamedTables, Tables};
 use cs_file_texts::{Form, Told, write_tables};
 use cs_wire::ReadError;
 use std::alloc::Global;

@@ -3,11 +3,11 @@ ghost use Rattle.std.specs.Prelude.{◌≡◌, ◌≤◌, ◌++◌, [], List, On
 ghost use Rattle.cs_wire_entries.specs.declared.entry.Entry.{Entry as EntryData};
 ghost use Rattle.cs_wire.specs.Changeset.{GroupData, entries_bytes, file_bytes, header_bytes};
 ghost use Rattle.cs_wire.specs.Entry.{entry_bytes};
-ghost use Rattle.cs_file_tables.specs.Tables.{EntriesLeft};
+ghost use Rattle.cs_file_scan.specs.Tables.{EntriesLeft};
 ghost use Rattle.cs_wire.specs.Views.{inverse_entry};
 ghost use Rattle.cs_group.specs.Inverse.{inverse_group};
 
-use cs_file_tables::{Tables, Visit};
+use cs_file_scan::{Tables, Visit};
 use cs_value::NoMemory;
 use cs_wire::{EntryRef, HeaderRef};
 

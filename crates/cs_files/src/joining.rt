@@ -2,7 +2,7 @@
 ghost use Rattle.std.specs.Prelude.{◌≡◌, List, IfErr, IfOk};
 ghost use Rattle.cs_value.specs.Refusals.{Refuses};
 ghost use Rattle.cs_wire.specs.Changeset.{GroupData, IsChangeset, file_bytes};
-ghost use Rattle.cs_file_tables.specs.Named.{AreListed};
+ghost use Rattle.cs_file_scan.specs.Named.{AreListed};
 ghost use Rattle.cs_group.specs.Joining.{AreJoinable, joined};
 ghost use Rattle.cs_files.specs.Files.{AreUnjoined};
 
@@ -13,7 +13,7 @@ pub(crate) mod tables;
 use crate::fault::{FileFault, ToolFault};
 use crate::joining::columns::first_clash;
 use crate::joining::tables::{write_kept_tables, write_new_tables};
-use cs_file_tables::NamedTables;
+use cs_file_scan::NamedTables;
 use cs_group::SchemaFault;
 use std::alloc::Global;
 

@@ -2,11 +2,11 @@
 ghost use Rattle.std.specs.Prelude.{◌≡◌, ◌++◌, [], List, OnOk};
 ghost use Rattle.cs_wire.specs.Changeset.{GroupData, IsHeader, file_bytes, header_bytes};
 ghost use Rattle.cs_wire.specs.Headers.{header_of};
-ghost use Rattle.cs_file_tables.specs.Tables.{EntriesLeft};
+ghost use Rattle.cs_file_scan.specs.Tables.{EntriesLeft};
 ghost use Rattle.cs_group.specs.Numbering.{numbered, numbered_header};
 
 use crate::joining::tables::write_entries;
-use cs_file_tables::Tables;
+use cs_file_scan::Tables;
 use cs_group::number_flags;
 use cs_value::NoMemory;
 use cs_wire::HeaderRef;

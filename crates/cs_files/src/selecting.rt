@@ -5,10 +5,10 @@ ghost use Rattle.cs_wire_entries.specs.declared.entry.Entry.{Entry as EntryData}
 ghost use Rattle.cs_wire.specs.Changeset.{GroupData, IsHeader, entries_bytes, file_bytes, header_bytes};
 ghost use Rattle.cs_wire.specs.Headers.{header_of};
 ghost use Rattle.cs_wire.specs.ReadFaults.{ReadFails};
-ghost use Rattle.cs_file_tables.specs.Tables.{EntriesLeft};
+ghost use Rattle.cs_file_scan.specs.Tables.{EntriesLeft};
 ghost use Rattle.cs_files.specs.Selecting.{Selects, is_among as is_among_in, selected};
 
-use cs_file_tables::Tables;
+use cs_file_scan::Tables;
 use cs_value::NoMemory;
 use cs_wire::{HeaderRef, ReadError};
 use std::alloc::Global;

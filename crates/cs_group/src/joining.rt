@@ -21,7 +21,7 @@ use std::alloc::Global;
 /// Returns the changeset that does what `first` does and then what `second` does, as SQLite's
 /// `sqlite3changeset_concat` does, but for the order of keys. If `first` applies without a conflict and then `second`
 /// does, the concatenation applies without a conflict, with the same result (`join_applies_law` of
-/// `cs_apply_conflicts`). A changeset and its inverse make an empty one.
+/// `cs_apply_conflict_kinds`). A changeset and its inverse make an empty one.
 ///
 /// The tables of `first` come first, in their order and with their headers, and then those that only `second` has. The
 /// same goes for the keys of a table. Two entries of one key are merged ([`merge`]). Entries without

@@ -14,7 +14,7 @@
 //! name and entries by key, `joined` collects the result, and `merging` merges two entries. `net` has the change from
 //! one row to another, `image` the rows of entries before and after, and `fault` why two changesets are not
 //! concatenated. `CALLING.md`, next to this folder, shows a caller. What a changeset does to a row is said by
-//! `cs_apply_conflicts`.
+//! `cs_apply_conflict_kinds`.
 #![tactic(auto)]
 
 mod columns;

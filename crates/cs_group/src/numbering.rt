@@ -12,7 +12,7 @@ use std::alloc::Global;
 
 /// Returns the changeset with its key columns numbered in column order, as SQLite's session extension does: 1 for the
 /// first column of the key, 2 for the second, and so on, and 255 from the 255th on. It has the same effect
-/// (`numbering_does_law` of `cs_apply_conflicts`), and its file the same length.
+/// (`numbering_does_law` of `cs_apply_conflict_kinds`), and its file the same length.
 ///
 /// SQLite's `sqlite3changeset_apply` skips a table whose flags are not these numbers. Do not call this on a changeset
 /// that SQLite recorded: it has its numbers, and they need not be in column order.

@@ -15,17 +15,17 @@ use Rattle.cs_wire_entries.specs.declared.entry.Change.{Change}
 use Rattle.cs_wire_entries.specs.declared.entry.Entry.{Entry}
 use Rattle.cs_wire.specs.Entry.{IsEntry, key_of, after_image}
 use Rattle.cs_wire.specs.Changeset.{HeaderData, GroupData, IsGroup, IsChangeset}
-use Rattle.cs_apply_conflicts.specs.declared.judging.Judgement.TheVariants.{Wider, Compatible}
-use Rattle.cs_apply_conflicts.specs.Judging.{leads, judgement, judged}
+use Rattle.cs_apply_conflict_kinds.specs.declared.judging.Judgement.TheVariants.{Wider, Compatible}
+use Rattle.cs_apply_conflict_kinds.specs.Judging.{leads, judgement, judged}
 use Rattle.cs_group.specs.Net.{net_row_change}
-use Rattle.cs_apply_conflicts.specs.Conflicts.{is_refused, row_after}
-use Rattle.cs_apply_conflicts.specs.Applying.{PlacedEntry, placed_by, placed, current, refuses_at, IsElsewhere, placed_kind, placed_result, compatible_groups, applicable, Choices, IsClean, IsApplied}
+use Rattle.cs_apply_conflict_kinds.specs.Conflicts.{is_refused, row_after}
+use Rattle.cs_apply_conflict_kinds.specs.Applying.{PlacedEntry, placed_by, placed, current, refuses_at, IsElsewhere, placed_kind, placed_result, compatible_groups, applicable, Choices, IsClean, IsApplied}
 use Rattle.cs_group.specs.Inverse.{IsInverse}
-use Rattle.cs_apply_conflicts.proofs.ApplyLemmas.{applied_reverts}
-use Rattle.cs_apply_conflicts.proofs.ConflictLemmas.{between}
+use Rattle.cs_apply_conflict_kinds.proofs.ApplyLemmas.{applied_reverts}
+use Rattle.cs_apply_conflict_kinds.proofs.ConflictLemmas.{between}
 use Rattle.cs_group.proofs.KeyPlaceLemmas.{row_under}
-use Rattle.cs_apply_conflicts.proofs.NetLemmas.{NetLeads, net_leads}
-use Rattle.cs_apply_conflicts.proofs.RuleLemmas.{found_obeys}
+use Rattle.cs_apply_conflict_kinds.proofs.NetLemmas.{NetLeads, net_leads}
+use Rattle.cs_apply_conflict_kinds.proofs.RuleLemmas.{found_obeys}
 use Rattle.cs_session_notes.specs.FirstImages.{FirstImage, AttachedTable, Notes, IsAttachedTable, IsNotes, HasAttached, first_at, entry_since, header_of, group_of, recorded_changes, rewound_state}
 use Rattle.cs_session_notes.proofs.FirstLemmas.{put_all_at}
 use Rattle.cs_session.proofs.RewoundLemmas.{rewound_schemas, rewound_is_state, rewound_elsewhere, IsRewound, rewound_here}

@@ -16,9 +16,9 @@ use Rattle.cs_rows.specs.declared.fault.StoreError.TheVariants.{KeyTaken, NoRow}
 use Rattle.cs_rows.specs.declared.fault.StoreError.TheVariants as store
 use Rattle.cs_store.specs.Faults.{IsResource, refused_for}
 use Rattle.cs_store.specs.Editing.{Edited, row_fault, unless, has_row, when, inserted_in, moved, updated_in, deleted_in, found_table, edited}
-use Rattle.cs_apply_conflicts.specs.Laws.{TellsFormer}
-use Rattle.cs_apply_rows.specs.Steps.{with_result}
-use Rattle.cs_apply_rows.proofs.WriteLemmas.{result_schemas, result_elsewhere}
+use Rattle.cs_apply_conflict_kinds.specs.Laws.{TellsFormer}
+use Rattle.cs_apply_engine.specs.Steps.{with_result}
+use Rattle.cs_apply_engine.proofs.WriteLemmas.{result_schemas, result_elsewhere}
 use Rattle.cs_session_notes.specs.declared.fault.SessionFault.{SessionFault}
 use Rattle.cs_session_notes.specs.declared.fault.SessionFault.TheVariants.{NoMemory as OutOfMemory}
 use Rattle.cs_session_notes.specs.Faults.{fault_of}

@@ -14,19 +14,19 @@ use Rattle.cs_wire.specs.Laws.{ChangesetFiles}
 use Rattle.cs_store.specs.Laws.{was_clean}
 use Rattle.cs_store.specs.Records.{KeepsCrash}
 use Rattle.cs_store.specs.Store.{Begins, tables_in}
-use Rattle.cs_apply_conflicts.specs.declared.conflict.Choice.{Choice}
-use Rattle.cs_apply_conflicts.specs.declared.judging.Judgement.TheVariants.{Compatible}
-use Rattle.cs_apply_conflicts.specs.Judging.{judgement, judged}
-use Rattle.cs_apply_conflicts.specs.Applying.{omit_all, skipped}
+use Rattle.cs_apply_conflict_kinds.specs.declared.conflict.Choice.{Choice}
+use Rattle.cs_apply_conflict_kinds.specs.declared.judging.Judgement.TheVariants.{Compatible}
+use Rattle.cs_apply_conflict_kinds.specs.Judging.{judgement, judged}
+use Rattle.cs_apply_conflict_kinds.specs.Applying.{omit_all, skipped}
 use Rattle.cs_value.proofs.ListLemmas.{recursion_from_AllPairs}
-use Rattle.cs_apply_conflicts.specs.declared.conflict.Noop.TheVariants as noop
-use Rattle.cs_apply_rows.specs.declared.conflict.Conflict.{Conflict}
-use Rattle.cs_apply_rows.specs.declared.fault.ApplyFault.{ApplyFault}
-use Rattle.cs_apply_rows.specs.declared.fault.ApplyFault.TheVariants as apply
-use Rattle.cs_apply_rows.specs.declared.report.Report.{Report}
-use Rattle.cs_apply_rows.specs.declared.running.Direction.TheVariants.{Inverse}
-use Rattle.cs_apply_rows.specs.Running as applying
-use Rattle.cs_apply_rows.specs.Running.{Handler, AlwaysAborts, Applies, Refuses, Leads}
+use Rattle.cs_apply_conflict_kinds.specs.declared.conflict.Noop.TheVariants as noop
+use Rattle.cs_apply_engine.specs.declared.conflict.Conflict.{Conflict}
+use Rattle.cs_apply_engine.specs.declared.fault.ApplyFault.{ApplyFault}
+use Rattle.cs_apply_engine.specs.declared.fault.ApplyFault.TheVariants as apply
+use Rattle.cs_apply_engine.specs.declared.report.Report.{Report}
+use Rattle.cs_apply_engine.specs.declared.running.Direction.TheVariants.{Inverse}
+use Rattle.cs_apply_engine.specs.Running as applying
+use Rattle.cs_apply_engine.specs.Running.{Handler, AlwaysAborts, Applies, Refuses, Leads}
 use Rattle.cs_apply.proofs.RevertLemmas.{reverts_ok, reverts_err, applies_weaker, refuses_weaker}
 use Rattle.cs_store.specs.Faults.{IsStoreFault}
 use Rattle.cs_session_notes.specs.Faults.{apply_fault_of}

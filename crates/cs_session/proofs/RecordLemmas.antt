@@ -9,19 +9,19 @@ use Rattle.cs_value.specs.State.{State, WrittenData, IsState}
 use Rattle.cs_wire.specs.Laws.{ChangesetFiles}
 use Rattle.cs_store.specs.Editing.{written_of}
 use Rattle.cs_store.specs.Store.{RefusesShut, tables_in}
-use Rattle.cs_apply_conflicts.specs.Laws.{TellsFormer}
-use Rattle.cs_apply_conflicts.proofs.ApplyLemmas.{written_tells}
-use Rattle.cs_apply_conflicts.specs.declared.conflict.Choice.{Choice}
-use Rattle.cs_apply_conflicts.specs.declared.conflict.Noop.{Noop}
-use Rattle.cs_apply_conflicts.specs.declared.conflict.Noop.TheVariants.{Report as Reported}
-use Rattle.cs_apply_rows.specs.declared.conflict.Conflict.{Conflict}
-use Rattle.cs_apply_rows.specs.declared.fault.ApplyFault.{ApplyFault}
-use Rattle.cs_apply_rows.specs.declared.fault.ApplyFault.TheVariants.{Read, Wider, Abort, Misuse, Store, NoMemory}
-use Rattle.cs_apply_rows.specs.declared.report.Report.{Report}
-use Rattle.cs_apply_rows.specs.declared.running.Direction.{Direction}
-use Rattle.cs_apply_rows.specs.declared.running.Direction.TheVariants.{Forward, Inverse}
-use Rattle.cs_apply_rows.specs.Running as running
-use Rattle.cs_apply_rows.specs.Running.{Handler, AlwaysAborts, Applies, Refuses, Leads}
+use Rattle.cs_apply_conflict_kinds.specs.Laws.{TellsFormer}
+use Rattle.cs_apply_conflict_kinds.proofs.ApplyLemmas.{written_tells}
+use Rattle.cs_apply_conflict_kinds.specs.declared.conflict.Choice.{Choice}
+use Rattle.cs_apply_conflict_kinds.specs.declared.conflict.Noop.{Noop}
+use Rattle.cs_apply_conflict_kinds.specs.declared.conflict.Noop.TheVariants.{Report as Reported}
+use Rattle.cs_apply_engine.specs.declared.conflict.Conflict.{Conflict}
+use Rattle.cs_apply_engine.specs.declared.fault.ApplyFault.{ApplyFault}
+use Rattle.cs_apply_engine.specs.declared.fault.ApplyFault.TheVariants.{Read, Wider, Abort, Misuse, Store, NoMemory}
+use Rattle.cs_apply_engine.specs.declared.report.Report.{Report}
+use Rattle.cs_apply_engine.specs.declared.running.Direction.{Direction}
+use Rattle.cs_apply_engine.specs.declared.running.Direction.TheVariants.{Forward, Inverse}
+use Rattle.cs_apply_engine.specs.Running as running
+use Rattle.cs_apply_engine.specs.Running.{Handler, AlwaysAborts, Applies, Refuses, Leads}
 use Rattle.cs_apply.proofs.RevertLemmas.{applies_weaker, leads_clean, refuses_weaker, reverts_err, reverts_ok}
 use Rattle.cs_session_notes.specs.declared.fault.SessionFault.{SessionFault}
 use Rattle.cs_session_notes.specs.declared.fault.SessionFault.TheVariants.{NoMemory as OutOfMemory}

@@ -18,13 +18,13 @@ use Rattle.sqlite.specs.State.{State as Connection}
 use Rattle.cs_store.specs.Editing.{Declares, Edited}
 use Rattle.cs_store.specs.Records.{KeepsContent}
 use Rattle.cs_store.specs.Store.{tables_in}
-use Rattle.cs_apply_conflicts.specs.Laws.{TellsFormer}
-use Rattle.cs_apply_conflicts.specs.declared.conflict.Noop.{Noop}
-use Rattle.cs_apply_rows.specs.declared.running.Direction.{Direction}
-use Rattle.cs_apply_conflicts.specs.Applying.{written_under}
-use Rattle.cs_apply_conflicts.proofs.ApplyLemmas.{written_tells}
-use Rattle.cs_apply_rows.specs.declared.report.Report.{Report}
-use Rattle.cs_apply_rows.specs.Running.{Handler}
+use Rattle.cs_apply_conflict_kinds.specs.Laws.{TellsFormer}
+use Rattle.cs_apply_conflict_kinds.specs.declared.conflict.Noop.{Noop}
+use Rattle.cs_apply_engine.specs.declared.running.Direction.{Direction}
+use Rattle.cs_apply_conflict_kinds.specs.Applying.{written_under}
+use Rattle.cs_apply_conflict_kinds.proofs.ApplyLemmas.{written_tells}
+use Rattle.cs_apply_engine.specs.declared.report.Report.{Report}
+use Rattle.cs_apply_engine.specs.Running.{Handler}
 use Rattle.cs_session_notes.specs.FirstImages.{FirstImage, AttachedTable, Notes, HasAttached, first_at, put_all_back, rewound_rows, rewound, rewound_state, noted_in, recorded}
 use Rattle.cs_session_notes.specs.Attaching.{Attaches}
 use Rattle.cs_session_notes.specs.Merging.{all_noted}

@@ -7,7 +7,7 @@ use Rattle.cs_value.specs.State.{IsState}
 use Rattle.cs_rows.specs.declared.fault.StoreError.{StoreError}
 use Rattle.cs_rows.specs.Faults as stores
 use Rattle.cs_rows.specs.Faults.{refused_for}
-use Rattle.cs_store_records.specs.Failing.{LeadsTo, itself, by_each}
+use Rattle.cs_store_sql.specs.Failing.{LeadsTo, itself, by_each}
 use Rattle.cs_store.specs.Failing.{IsMade, Writes}
 use Rattle.cs_store.specs.Laws.{was_clean}
 use Rattle.cs_store.specs.Records.{KeepsCrash, KeepsOthers}

@@ -4,7 +4,7 @@ pub mod Merged
 pub mod Runs
 pub use Rattle.cs_value.specs.State
 pub use Rattle.cs_wire.specs.Changeset
-pub use Rattle.cs_apply_conflicts.specs.Applying
+pub use Rattle.cs_apply_conflict_kinds.specs.Applying
 pub use Rattle.cs_session_notes.specs.FirstImages
 pub use Rattle.cs_session_notes.specs.Merging
 pub use Rattle.cs_session_notes.specs.Attaching

@@ -6,8 +6,8 @@ use Rattle.cs_value.specs.State.{SchemaData, RowMap, State, rows_at}
 use Rattle.cs_wire.specs.Changeset.{GroupData}
 use Rattle.cs_rows.specs.declared.edit.Edit.{Edit}
 use Rattle.cs_store.specs.Editing.{Declares}
-use Rattle.cs_apply_conflicts.specs.declared.conflict.Noop.{Noop}
-use Rattle.cs_apply_conflicts.specs.Applying.{Choices, IsAppliedUnder, written_under}
+use Rattle.cs_apply_conflict_kinds.specs.declared.conflict.Noop.{Noop}
+use Rattle.cs_apply_conflict_kinds.specs.Applying.{Choices, IsAppliedUnder, written_under}
 use Rattle.cs_session_notes.specs.FirstImages.{Notes, rewound, rewound_state, recorded}
 use Rattle.cs_session_notes.specs.Attaching.{Attaches}
 use Rattle.cs_session_notes.specs.Changes.{HasTables}

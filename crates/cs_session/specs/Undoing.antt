@@ -2,12 +2,12 @@
 use Rattle.std.specs.Prelude.{◌≡◌, List, [], map}
 use Rattle.cs_value.specs.State.{State, rows_at}
 use Rattle.cs_wire.specs.Changeset.{GroupData, file_bytes}
-use Rattle.cs_apply_conflicts.specs.Applying.{Choices, IsClean, IsApplied}
-use Rattle.cs_apply_rows.specs.declared.report.Report.{Report}
-use Rattle.cs_apply_rows.specs.declared.running.Direction.TheVariants.{Inverse}
-use Rattle.cs_apply_conflicts.specs.declared.conflict.Noop.TheVariants as noop
-use Rattle.cs_apply_rows.specs.Running.{Applies, AlwaysAborts, IsNoReadFault, directed}
-use Rattle.cs_apply_rows.specs.Writes.{IsRunWrite}
+use Rattle.cs_apply_conflict_kinds.specs.Applying.{Choices, IsClean, IsApplied}
+use Rattle.cs_apply_engine.specs.declared.report.Report.{Report}
+use Rattle.cs_apply_engine.specs.declared.running.Direction.TheVariants.{Inverse}
+use Rattle.cs_apply_conflict_kinds.specs.declared.conflict.Noop.TheVariants as noop
+use Rattle.cs_apply_engine.specs.Running.{Applies, AlwaysAborts, IsNoReadFault, directed}
+use Rattle.cs_apply_engine.specs.Writes.{IsRunWrite}
 use Rattle.cs_rows.specs.Rows.{Write}
 use Rattle.cs_session_notes.specs.declared.fault.SessionFault.{SessionFault}
 use Rattle.cs_session_notes.specs.declared.fault.SessionFault.TheVariants.{Apply}

@@ -10,7 +10,7 @@ ghost use Rattle.cs_store.specs.Failing.{StoreFails, Writes};
 ghost use Rattle.cs_store.specs.Records.{KeepsContent, KeepsOthers};
 ghost use Rattle.cs_store.specs.Transacts.{Transacts};
 ghost use Rattle.cs_store.specs.Store.{IsAtRest, RefusesShut, tables_in};
-ghost use Rattle.cs_apply_rows.specs.Writes.{IsFileWrite};
+ghost use Rattle.cs_apply_engine.specs.Writes.{IsFileWrite};
 ghost use Rattle.cs_apply.specs.Crash.{AppliesInto};
 ghost use Rattle.cs_session_notes.specs.Changes.{IsCaused, IsResource, is_answered};
 ghost use Rattle.cs_session_notes.specs.FirstImages.{IsNotes};

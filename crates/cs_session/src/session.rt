@@ -16,11 +16,11 @@ ghost use Rattle.cs_session_notes.specs.FirstImages.{AttachedTable, IsNotes, rew
 ghost use Rattle.cs_session_notes.specs.Attaching.{Attaches, RefusesAttach, IsAttachRefusal, IsNewTable};
 ghost use Rattle.cs_session_notes.specs.Changes.{HasTables, IsCaused, IsChangesRefusal, IsResource, RefusesChanges};
 ghost use Rattle.cs_session.specs.Recording.{Records, RefusesEdit, IsEditRefusal, RecordsApply, RefusesApply, IsApplyRefusal};
-ghost use Rattle.cs_apply_rows.specs.declared.running.Direction.TheVariants.{Forward as ForwardRun, Inverse as InverseRun};
-ghost use Rattle.cs_apply_conflicts.specs.declared.conflict.Noop.TheVariants.{Report as Reported};
+ghost use Rattle.cs_apply_engine.specs.declared.running.Direction.TheVariants.{Forward as ForwardRun, Inverse as InverseRun};
+ghost use Rattle.cs_apply_conflict_kinds.specs.declared.conflict.Noop.TheVariants.{Report as Reported};
 ghost use Rattle.cs_apply.specs.Crash.{AppliesInto};
-ghost use Rattle.cs_apply_rows.specs.Running.{AlwaysAborts, Leads};
-ghost use Rattle.cs_apply_rows.specs.Writes.{IsFileWrite};
+ghost use Rattle.cs_apply_engine.specs.Running.{AlwaysAborts, Leads};
+ghost use Rattle.cs_apply_engine.specs.Writes.{IsFileWrite};
 ghost use Rattle.cs_session.specs.Undoing.{LeadsBackTo, Undoes, UndoesInto, IsUndoRefusal, IsUndoWrite};
 
 use crate::applying::apply_batch;

@@ -5,9 +5,9 @@ use Rattle.cs_rows.specs.declared.fault.StoreError.{StoreError}
 use Rattle.cs_rows.specs.declared.fault.StoreError.TheVariants as store
 use Rattle.cs_rows.specs.Faults as stores
 use Rattle.cs_rows.proofs.CauseLemmas as rows
-use Rattle.cs_apply_rows.specs.declared.fault.ApplyFault.{ApplyFault}
-use Rattle.cs_apply_rows.specs.declared.fault.ApplyFault.TheVariants as apply_fault
-use Rattle.cs_apply_rows.specs.Running as running
+use Rattle.cs_apply_engine.specs.declared.fault.ApplyFault.{ApplyFault}
+use Rattle.cs_apply_engine.specs.declared.fault.ApplyFault.TheVariants as apply_fault
+use Rattle.cs_apply_engine.specs.Running as running
 use Rattle.cs_session_notes.specs.declared.fault.SessionFault.{SessionFault}
 use Rattle.cs_session_notes.specs.declared.fault.SessionFault.TheVariants.{Store, NoMemory}
 use Rattle.cs_session_notes.specs.Faults.{apply_fault_of, fault_of}

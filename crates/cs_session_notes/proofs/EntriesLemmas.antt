@@ -15,7 +15,7 @@ use Rattle.cs_wire_entries.specs.declared.entry.Entry.{Entry}
 use Rattle.cs_wire.specs.Entry.{IsChange, IsEntry, key_of}
 use Rattle.cs_group.specs.Net.{net_row_change}
 use Rattle.cs_group.proofs.KeyPlaceLemmas.{row_under}
-use Rattle.cs_apply_conflicts.proofs.NetLemmas.{NetLeads, net_leads}
+use Rattle.cs_apply_conflict_kinds.proofs.NetLemmas.{NetLeads, net_leads}
 use Rattle.cs_session_notes.specs.declared.fault.SessionFault.{SessionFault}
 use Rattle.cs_session_notes.specs.FirstImages.{FirstImage, AttachedTable, Notes, IsAttachedTable, HasAttached}
 use Rattle.cs_session_notes.specs.Changes.{LacksTable, LacksNamed, RefusesTable, RefusesNamed, RefusesChanges}

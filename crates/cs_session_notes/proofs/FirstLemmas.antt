@@ -10,7 +10,7 @@ use Rattle.std.proofs.lemmas.Option.{none-some}
 use Rattle.cs_value.specs.declared.value.OwnedValue.{OwnedValue}
 use Rattle.cs_value.specs.State.{RowMap, State, WrittenData, row_at, rows_at}
 use Rattle.cs_value.proofs.ByteMaps.{same_maps, tied_bytes, self_tied}
-use Rattle.cs_apply_conflicts.specs.Laws.{TellsFormer}
+use Rattle.cs_apply_conflict_kinds.specs.Laws.{TellsFormer}
 use Rattle.cs_session_notes.specs.FirstImages.{FirstImage, AttachedTable, Notes, first_at, put_all_back, rewound_rows, rewound, noted, writes_of, recorded}
 
 -- ---- the rows from before

@@ -8,7 +8,7 @@ use Rattle.cs_value.specs.declared.value.OwnedValue.{OwnedValue}
 use Rattle.cs_value.specs.State.{SchemaData, State, WrittenData, IsState, IsRowAt, row_at}
 use Rattle.cs_value.proofs.ListLemmas.{AllByRecursion-map, AllByRecursion-push, AllByRecursion-weaker, PairsByRecursion, recursion_from_AllPairs, AllPairs-from_recursion}
 use Rattle.cs_value.proofs.StateLemmas.{row_at_fits}
-use Rattle.cs_apply_conflicts.specs.Laws.{TellsFormer}
+use Rattle.cs_apply_conflict_kinds.specs.Laws.{TellsFormer}
 use Rattle.cs_session_notes.specs.FirstImages.{FirstImage, AttachedTable, Notes, IsAttachedTable, IsNotes, HasAttached, first_at, noted, writes_of, noted_in, recorded}
 use Rattle.cs_session_notes.specs.Noting.{HasFormers, AreFormers}
 use Rattle.cs_session_notes.proofs.FirstLemmas.{told_of}

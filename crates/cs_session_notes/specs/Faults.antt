@@ -3,9 +3,9 @@ use Rattle.std.specs.Prelude.{ℕ, List, codes}
 use Rattle.cs_rows.specs.declared.fault.StoreError.{StoreError}
 use Rattle.cs_rows.specs.declared.fault.StoreError.TheVariants as store_error
 use Rattle.cs_rows.specs.Faults as stores
-use Rattle.cs_apply_rows.specs.declared.fault.ApplyFault.{ApplyFault}
-use Rattle.cs_apply_rows.specs.declared.fault.ApplyFault.TheVariants as apply_fault
-use Rattle.cs_apply_rows.specs.Faults as applying
+use Rattle.cs_apply_engine.specs.declared.fault.ApplyFault.{ApplyFault}
+use Rattle.cs_apply_engine.specs.declared.fault.ApplyFault.TheVariants as apply_fault
+use Rattle.cs_apply_engine.specs.Faults as applying
 use Rattle.cs_session_notes.specs.declared.fault.SessionFault.{SessionFault}
 use Rattle.cs_session_notes.specs.declared.fault.SessionFault.TheVariants.{Store, Apply, AlreadyAttached, WrongStore, NoMemory}
 

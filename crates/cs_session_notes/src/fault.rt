@@ -1,7 +1,7 @@
 //! Why a session refuses a call.
 ghost use Rattle.cs_session_notes.specs.Faults.{code_of, class_of, name_of};
 
-use cs_apply_rows::ApplyFault;
+use cs_apply_engine::ApplyFault;
 use cs_rows::StoreError;
 use cs_value::{Fault, NoMemory};
 use std::alloc::{AllocError, AllocFailed};

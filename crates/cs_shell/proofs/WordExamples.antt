@@ -3,10 +3,10 @@ use Rattle.std.proofs.Common.{◌≡◌, refl, [], ◌∷◌, None, Some, true, 
 use Rattle.clap.specs.Words.{takes, fault_of}
 use Rattle.clap.specs.declared.error.kind.ErrorKind.TheVariants as kind
 use Rattle.clap.proofs.OnLiterals.{clap_on_literals}
-use Rattle.cs_apply_conflicts.specs.declared.conflict.Choice.{Choice}
-use Rattle.cs_apply_conflicts.specs.declared.conflict.Choice.TheVariants as choice
-use Rattle.cs_apply_conflicts.specs.declared.conflict.Noop.TheVariants.{Report, Ignore}
-use Rattle.cs_apply_rows.specs.declared.policy.Policy.{Policy}
+use Rattle.cs_apply_conflict_kinds.specs.declared.conflict.Choice.{Choice}
+use Rattle.cs_apply_conflict_kinds.specs.declared.conflict.Choice.TheVariants as choice
+use Rattle.cs_apply_conflict_kinds.specs.declared.conflict.Noop.TheVariants.{Report, Ignore}
+use Rattle.cs_apply_engine.specs.declared.policy.Policy.{Policy}
 use Rattle.cs_shell.specs.Words.{asked, command_app, Apply, Concat, Dump, Sql, Invert, Shell}
 
 abbrev policy : Choice → Choice → Choice → Choice → Policy

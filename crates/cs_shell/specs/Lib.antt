@@ -19,7 +19,7 @@ pub use Rattle.cs_group.specs.Inverse
 pub use Rattle.cs_group.specs.Net
 pub use Rattle.cs_group.specs.Joining
 pub use Rattle.cs_rows.specs.Editing
-pub use Rattle.cs_apply_rows.specs.Running
+pub use Rattle.cs_apply_engine.specs.Running
 pub use Rattle.cs_shell_columns.specs.Columns
 pub use Rattle.cs_shell_columns.specs.Rows
 pub use Rattle.cs_shell_grammar.specs.Tokens

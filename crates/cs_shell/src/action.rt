@@ -1,7 +1,7 @@
 //! What words ask for.
 
-use cs_apply_conflicts::Noop;
-use cs_apply_rows::Policy;
+use cs_apply_conflict_kinds::Noop;
+use cs_apply_engine::Policy;
 
 /// What the words of a command line ask for. Files and stores are named by their paths.
 #[derive(Clone, Copy, Debug)]

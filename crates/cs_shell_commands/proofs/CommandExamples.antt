@@ -9,8 +9,8 @@ use Rattle.std.proofs.lemmas.Bool.{cond-true, cond-false}
 use Rattle.cs_wire.proofs.Examples.{insert_file, delete_file, update_file, letter_is_refused}
 use Rattle.cs_wire_entries.specs.declared.fault.ReadFaultKind.TheVariants.{NotTable}
 use Rattle.cs_files.proofs.Examples.{insert_file_inverts, insert_file_joins_update, later_file}
-use Rattle.cs_apply_conflicts.specs.declared.conflict.Noop.{Noop}
-use Rattle.cs_apply_rows.specs.declared.policy.Policy.{Policy}
+use Rattle.cs_apply_conflict_kinds.specs.declared.conflict.Noop.{Noop}
+use Rattle.cs_apply_engine.specs.declared.policy.Policy.{Policy}
 use Rattle.cs_file_texts.specs.declared.told.Told.{Told}
 use Rattle.cs_folder.specs.Files.{Files, HasFile}
 use Rattle.cs_shell_replies.specs.declared.refusal.Refusal.TheVariants.{Input, Read}

@@ -2,9 +2,9 @@
 use Rattle.std.specs.Prelude.{◌≡◌, ◌≢◌, ◌⊎◌, ℕ, List, Option, None, Result, Ok, Err, codes}
 use Rattle.std.specs.FinMap as map
 use Rattle.cs_value.specs.State.{State}
-use Rattle.cs_apply_conflicts.specs.declared.conflict.Noop.{Noop}
-use Rattle.cs_apply_rows.specs.declared.policy.Policy.{Policy}
-use Rattle.cs_apply_rows.specs.declared.running.Direction.TheVariants.{Forward}
+use Rattle.cs_apply_conflict_kinds.specs.declared.conflict.Noop.{Noop}
+use Rattle.cs_apply_engine.specs.declared.policy.Policy.{Policy}
+use Rattle.cs_apply_engine.specs.declared.running.Direction.TheVariants.{Forward}
 use Rattle.cs_rows.specs.declared.fault.StoreError.{StoreError}
 use Rattle.cs_rows.specs.Faults.{IsResource}
 use Rattle.cs_file_texts.specs.declared.told.Told.{Told}

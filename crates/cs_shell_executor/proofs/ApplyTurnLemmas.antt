@@ -7,18 +7,18 @@ use Rattle.cs_value.specs.declared.refusal.OrNoMemory.TheVariants as tool
 use Rattle.sqlite.specs.Effect.{IsDatabase}
 use Rattle.cs_store.specs.Records.{KeepsContent, KeepsOthers}
 use Rattle.cs_store.specs.Store.{IsAtRest, tables_in}
-use Rattle.cs_apply_conflicts.specs.declared.conflict.Choice.{Choice}
-use Rattle.cs_apply_conflicts.specs.declared.conflict.Noop.{Noop}
-use Rattle.cs_apply_conflicts.specs.declared.conflict.Noop.TheVariants as noop
-use Rattle.cs_apply_rows.specs.declared.conflict.Conflict.{Conflict}
-use Rattle.cs_apply_rows.specs.declared.fault.ApplyFault.{ApplyFault}
-use Rattle.cs_apply_rows.specs.declared.report.Report.{Report}
-use Rattle.cs_apply_rows.specs.declared.report.Summary.{Summary}
-use Rattle.cs_apply_rows.specs.declared.running.Direction.{Direction}
+use Rattle.cs_apply_conflict_kinds.specs.declared.conflict.Choice.{Choice}
+use Rattle.cs_apply_conflict_kinds.specs.declared.conflict.Noop.{Noop}
+use Rattle.cs_apply_conflict_kinds.specs.declared.conflict.Noop.TheVariants as noop
+use Rattle.cs_apply_engine.specs.declared.conflict.Conflict.{Conflict}
+use Rattle.cs_apply_engine.specs.declared.fault.ApplyFault.{ApplyFault}
+use Rattle.cs_apply_engine.specs.declared.report.Report.{Report}
+use Rattle.cs_apply_engine.specs.declared.report.Summary.{Summary}
+use Rattle.cs_apply_engine.specs.declared.running.Direction.{Direction}
 use Rattle.cs_store.specs.Crash.{MayLeave}
 use Rattle.cs_apply.specs.Crash.{AppliesInto}
-use Rattle.cs_apply_rows.specs.Running as applies
-use Rattle.cs_apply_rows.specs.Running.{Handler, AppliesCounted, Refuses, Summarizes}
+use Rattle.cs_apply_engine.specs.Running as applies
+use Rattle.cs_apply_engine.specs.Running.{Handler, AppliesCounted, Refuses, Summarizes}
 use Rattle.cs_apply.proofs.RevertLemmas.{counts_weaker, refuses_weaker}
 use Rattle.cs_session_notes.specs.declared.fault.SessionFault.{SessionFault}
 use Rattle.cs_session_notes.specs.declared.fault.SessionFault.TheVariants as session

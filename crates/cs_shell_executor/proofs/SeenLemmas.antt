@@ -12,12 +12,12 @@ use Rattle.cs_value.proofs.ListLemmas.{PairsByRecursion, recursion_from_AllPairs
 use Rattle.cs_wire_entries.specs.declared.entry.Entry.{Entry}
 use Rattle.cs_wire.specs.Changeset.{HeaderData, GroupData}
 use Rattle.cs_wire.specs.Inverse.{IsInverseGroup, IsInverseEntry}
-use Rattle.cs_apply_conflicts.specs.declared.conflict.Kind.{Kind}
-use Rattle.cs_apply_conflicts.specs.declared.judging.Judgement.TheVariants.{Compatible}
-use Rattle.cs_apply_conflicts.specs.Judging.{judgement, judged}
+use Rattle.cs_apply_conflict_kinds.specs.declared.conflict.Kind.{Kind}
+use Rattle.cs_apply_conflict_kinds.specs.declared.judging.Judgement.TheVariants.{Compatible}
+use Rattle.cs_apply_conflict_kinds.specs.Judging.{judgement, judged}
 use Rattle.cs_group.specs.Net.{net_entry}
-use Rattle.cs_apply_conflicts.specs.declared.conflict.Noop.TheVariants as noop
-use Rattle.cs_apply_conflicts.specs.Applying.{PlacedEntry, placed, placed_in, placed_by, placed_kind, Choices, met_at, met_under, written_for, written, compatible_groups, applicable}
+use Rattle.cs_apply_conflict_kinds.specs.declared.conflict.Noop.TheVariants as noop
+use Rattle.cs_apply_conflict_kinds.specs.Applying.{PlacedEntry, placed, placed_in, placed_by, placed_kind, Choices, met_at, met_under, written_for, written, compatible_groups, applicable}
 use Rattle.cs_session_notes.specs.FirstImages.{FirstImage, AttachedTable, Notes, IsAttachedTable, IsNotes, HasAttached, first_at, rewound_rows, rewound, rewound_state, noted, noted_in, writes_of, recorded, entry_since, header_of, group_of, recorded_changes}
 use Rattle.cs_session_notes.proofs.FirstLemmas.{put_all_at}
 use Rattle.cs_session.proofs.ChangesLemmas.{all_compatible}

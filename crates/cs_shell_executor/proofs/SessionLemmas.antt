@@ -16,14 +16,14 @@ use Rattle.cs_rows.specs.declared.edit.Edit.{Edit}
 use Rattle.cs_rows.specs.declared.fault.StoreError.{StoreError}
 use Rattle.cs_store.specs.Faults.{IsResource}
 use Rattle.cs_store.specs.Editing.{Edited, Declares, edited, written_of}
-use Rattle.cs_apply_conflicts.specs.declared.conflict.Noop.{Noop}
-use Rattle.cs_apply_conflicts.specs.declared.conflict.Noop.TheVariants as noop
-use Rattle.cs_apply_conflicts.specs.Applying.{met_under}
-use Rattle.cs_apply_rows.specs.declared.report.Report.{Report}
-use Rattle.cs_apply_rows.specs.declared.report.Summary.{Summary}
-use Rattle.cs_apply_rows.specs.declared.running.Direction.{Direction}
-use Rattle.cs_apply_rows.specs.Report.{met_of}
-use Rattle.cs_apply_rows.specs.Running.{Handler, AppliesCounted, Summarizes}
+use Rattle.cs_apply_conflict_kinds.specs.declared.conflict.Noop.{Noop}
+use Rattle.cs_apply_conflict_kinds.specs.declared.conflict.Noop.TheVariants as noop
+use Rattle.cs_apply_conflict_kinds.specs.Applying.{met_under}
+use Rattle.cs_apply_engine.specs.declared.report.Report.{Report}
+use Rattle.cs_apply_engine.specs.declared.report.Summary.{Summary}
+use Rattle.cs_apply_engine.specs.declared.running.Direction.{Direction}
+use Rattle.cs_apply_engine.specs.Report.{met_of}
+use Rattle.cs_apply_engine.specs.Running.{Handler, AppliesCounted, Summarizes}
 use Rattle.cs_session_notes.specs.declared.fault.SessionFault.{SessionFault}
 use Rattle.cs_session_notes.specs.declared.fault.SessionFault.TheVariants as session
 use Rattle.cs_session_notes.specs.FirstImages.{AttachedTable, Notes, IsNotes, HasAttached, rewound, recorded, recorded_changes}

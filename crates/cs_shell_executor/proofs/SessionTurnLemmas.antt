@@ -12,9 +12,9 @@ use Rattle.cs_wire.specs.Laws.{ChangesetFiles}
 use Rattle.sqlite.specs.Effect.{IsDatabase}
 use Rattle.cs_store.specs.Records.{KeepsContent, KeepsCrash, KeepsOthers}
 use Rattle.cs_store.specs.Store.{IsAtRest, KeepsStore, tables_in}
-use Rattle.cs_apply_rows.specs.declared.report.Report.{Report}
-use Rattle.cs_apply_rows.specs.declared.report.Summary.{Summary}
-use Rattle.cs_apply_rows.specs.Running.{Summarizes}
+use Rattle.cs_apply_engine.specs.declared.report.Report.{Report}
+use Rattle.cs_apply_engine.specs.declared.report.Summary.{Summary}
+use Rattle.cs_apply_engine.specs.Running.{Summarizes}
 use Rattle.cs_session_notes.specs.declared.fault.SessionFault.{SessionFault}
 use Rattle.cs_session_notes.specs.declared.fault.SessionFault.TheVariants as session
 use Rattle.cs_session_notes.specs.FirstImages.{FirstImage, AttachedTable, Notes, IsNotes, recorded_changes}

@@ -12,9 +12,9 @@ use Rattle.cs_store.specs.Faults.{refused_for}
 use Rattle.cs_store.specs.Laws.{was_clean}
 use Rattle.cs_store.specs.Records.{KeepsContent, KeepsCrash, KeepsOthers, IsUndone}
 use Rattle.cs_store.specs.Store.{Begins, IsAtRest, KeepsStore, tables_in}
-use Rattle.cs_apply_rows.specs.declared.fault.ApplyFault.{ApplyFault}
-use Rattle.cs_apply_rows.specs.declared.fault.ApplyFault.TheVariants as apply
-use Rattle.cs_apply_rows.specs.Running as applies
+use Rattle.cs_apply_engine.specs.declared.fault.ApplyFault.{ApplyFault}
+use Rattle.cs_apply_engine.specs.declared.fault.ApplyFault.TheVariants as apply
+use Rattle.cs_apply_engine.specs.Running as applies
 use Rattle.cs_session_notes.specs.declared.fault.SessionFault.{SessionFault}
 use Rattle.cs_session_notes.specs.declared.fault.SessionFault.TheVariants as session
 use Rattle.cs_session_notes.specs.Changes as sessions

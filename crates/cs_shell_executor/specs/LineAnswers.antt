@@ -12,19 +12,19 @@ use Rattle.cs_value.specs.State.{SchemaData, State, schema_at, rows_at, row_at}
 use Rattle.cs_wire_entries.specs.declared.fault.ReadFault.{ReadFault}
 use Rattle.cs_wire.specs.Changeset.{GroupData, IsChangeset, file_bytes}
 use Rattle.cs_wire.specs.ReadFaults.{ReadFails}
-use Rattle.cs_apply_conflicts.specs.declared.conflict.Choice.{Choice}
-use Rattle.cs_apply_conflicts.specs.declared.conflict.Noop.{Noop}
-use Rattle.cs_apply_conflicts.specs.declared.conflict.Noop.TheVariants as noop
+use Rattle.cs_apply_conflict_kinds.specs.declared.conflict.Choice.{Choice}
+use Rattle.cs_apply_conflict_kinds.specs.declared.conflict.Noop.{Noop}
+use Rattle.cs_apply_conflict_kinds.specs.declared.conflict.Noop.TheVariants as noop
 use Rattle.cs_rows.specs.declared.fault.StoreError.{StoreError}
 use Rattle.cs_rows.specs.declared.fault.StoreError.TheVariants.{NoTable, NullInKey, NoRow}
 use Rattle.cs_rows.specs.Faults.{IsStoreFault}
 use Rattle.cs_store.specs.Editing.{either, Edited, Declares, inserted, updated, deleted}
-use Rattle.cs_apply_rows.specs.declared.report.Summary.{Summary}
-use Rattle.cs_apply_rows.specs.declared.running.Direction.{Direction}
-use Rattle.cs_apply_rows.specs.declared.running.Direction.TheVariants.{Forward, Inverse}
-use Rattle.cs_apply_rows.specs.declared.fault.ApplyFault.{ApplyFault}
-use Rattle.cs_apply_rows.specs.Report.{chosen}
-use Rattle.cs_apply_rows.specs.Running.{Handler, AlwaysAborts, AppliesCounted, IsNamed, Refuses}
+use Rattle.cs_apply_engine.specs.declared.report.Summary.{Summary}
+use Rattle.cs_apply_engine.specs.declared.running.Direction.{Direction}
+use Rattle.cs_apply_engine.specs.declared.running.Direction.TheVariants.{Forward, Inverse}
+use Rattle.cs_apply_engine.specs.declared.fault.ApplyFault.{ApplyFault}
+use Rattle.cs_apply_engine.specs.Report.{chosen}
+use Rattle.cs_apply_engine.specs.Running.{Handler, AlwaysAborts, AppliesCounted, IsNamed, Refuses}
 use Rattle.cs_session_notes.specs.declared.fault.SessionFault.TheVariants.{AlreadyAttached}
 use Rattle.cs_files.specs.declared.fault.FileFault.{FileFault}
 use Rattle.cs_files.specs.Files.{Inverts, Joins, JoinFails}

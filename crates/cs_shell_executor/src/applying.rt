@@ -1,7 +1,7 @@
 //! Applies and reverts of files.
 ghost use Rattle.std.specs.Prelude.{None, Some};
 ghost use Rattle.sqlite.specs.Held.{state};
-ghost use Rattle.cs_apply_rows.specs.declared.running.Direction.TheVariants.{Forward};
+ghost use Rattle.cs_apply_engine.specs.declared.running.Direction.TheVariants.{Forward};
 ghost use Rattle.cs_shell_replies.specs.Replies.{answer_of};
 ghost use Rattle.cs_shell_executor.specs.LineAnswers.{AnswersApply, ApplyGives, ByKind, RevertGives};
 ghost use Rattle.cs_shell_executor.specs.Works.{Works};

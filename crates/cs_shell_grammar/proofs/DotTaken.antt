@@ -5,9 +5,9 @@ use Rattle.std.specs.Str.{is_utf8, bytes_eq}
 use Rattle.std.proofs.lemmas.Bool.{cond-false, cond-true}
 use Rattle.std.proofs.lemmas.Str.{IsUtf8-from_is_utf8, IsUtf8-from_ascii}
 use Rattle.cs_value.proofs.ListLemmas.{AllPairs-from_recursion}
-use Rattle.cs_apply_conflicts.specs.declared.conflict.Kind.TheVariants as kind
-use Rattle.cs_apply_conflicts.specs.declared.conflict.Choice.TheVariants as choice
-use Rattle.cs_apply_conflicts.specs.declared.conflict.Noop.TheVariants.{Report}
+use Rattle.cs_apply_conflict_kinds.specs.declared.conflict.Kind.TheVariants as kind
+use Rattle.cs_apply_conflict_kinds.specs.declared.conflict.Choice.TheVariants as choice
+use Rattle.cs_apply_conflict_kinds.specs.declared.conflict.Noop.TheVariants.{Report}
 use Rattle.cs_shell_tokens.specs.Tokens.{Token, Fixed, Name, Value, is_blank}
 use Rattle.cs_shell_grammar.specs.Commands.{CommandData, IsDotLine, ForKind, ForNoop, option_of, Load, Hex, Dump, Invert, Concat, Apply, Revert}
 use Rattle.cs_shell_tokens.specs.Words.{IsSlot, words_of, ends_word, onto_first, behind_word, is_slot, slot_in, text_in, one_slot_in, no_word_in}

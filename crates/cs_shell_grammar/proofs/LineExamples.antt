@@ -6,8 +6,8 @@ use Rattle.std.specs.Str.{is_utf8}
 use Rattle.std.proofs.lemmas.Str.{IsUtf8-from_is_utf8}
 use Rattle.cs_value.specs.declared.value.OwnedValue.{OwnedValue}
 use Rattle.cs_value.specs.declared.value.OwnedValue.TheVariants.{Int, Text, Blob, Null}
-use Rattle.cs_apply_conflicts.specs.declared.conflict.Choice.TheVariants.{Omit, Replace, Abort}
-use Rattle.cs_apply_conflicts.specs.declared.conflict.Noop.TheVariants.{Report, Ignore}
+use Rattle.cs_apply_conflict_kinds.specs.declared.conflict.Choice.TheVariants.{Omit, Replace, Abort}
+use Rattle.cs_apply_conflict_kinds.specs.declared.conflict.Noop.TheVariants.{Report, Ignore}
 use Rattle.cs_shell_grammar.specs.Commands.{CommandData, AssignmentData, Create, Insert, Update, Delete, Select, Load, Hex, Dump, Invert, Concat, Apply, Revert}
 use Rattle.cs_shell_grammar.specs.Commands.{SessionOpen, SessionAttach, SessionChangeset, SessionIsEmpty, SessionUndo, SessionClose}
 use Rattle.cs_shell_tokens.specs.Words.{words_of, behind_word, text_in, slot_in, no_word_in, one_slot_in}

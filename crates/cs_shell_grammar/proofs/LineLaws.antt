@@ -21,8 +21,8 @@ use Rattle.std.specs.List.{AllByRecursion}
 use Rattle.std.specs.Str.{is_utf8}
 use Rattle.std.proofs.lemmas.Bool.Decides.{nat_tests}
 use Rattle.std.proofs.lemmas.Str.{is_utf8-from_IsUtf8, IsUtf8-from_ascii}
-use Rattle.cs_apply_conflicts.specs.declared.conflict.Choice.{Choice}
-use Rattle.cs_apply_conflicts.specs.declared.conflict.Noop.{Noop}
+use Rattle.cs_apply_conflict_kinds.specs.declared.conflict.Choice.{Choice}
+use Rattle.cs_apply_conflict_kinds.specs.declared.conflict.Noop.{Noop}
 use Rattle.cs_shell_grammar.specs.DotReading.{digits_in, load_in, hex_in, dump_in, revert_in, invert_in, concat_in, dot_of, session_of}
 use Rattle.cs_shell_tokens.proofs.SlotLemmas.{says-is_slot}
 use Rattle.cs_shell_grammar.proofs.DotLemmas.{Leads, leads, words_of-join, dot_by, session_by, rest_of, rest_of_two}

@@ -5,12 +5,12 @@ use Rattle.std.specs.List.{AllByRecursion}
 use Rattle.std.specs.Str.{bytes_eq}
 use Rattle.std.proofs.lemmas.Slice.Eq.{bytes_eq-Decides}
 use Rattle.cs_value.proofs.ListLemmas.{PairsByRecursion, recursion_from_AllPairs, AllByRecursion-weaker}
-use Rattle.cs_apply_conflicts.specs.declared.conflict.Kind.{Kind}
-use Rattle.cs_apply_conflicts.specs.declared.conflict.Kind.TheVariants as kind
-use Rattle.cs_apply_conflicts.specs.declared.conflict.Choice.{Choice}
-use Rattle.cs_apply_conflicts.specs.declared.conflict.Choice.TheVariants as choice
-use Rattle.cs_apply_conflicts.specs.declared.conflict.Noop.{Noop}
-use Rattle.cs_apply_conflicts.specs.declared.conflict.Noop.TheVariants.{Report, Ignore}
+use Rattle.cs_apply_conflict_kinds.specs.declared.conflict.Kind.{Kind}
+use Rattle.cs_apply_conflict_kinds.specs.declared.conflict.Kind.TheVariants as kind
+use Rattle.cs_apply_conflict_kinds.specs.declared.conflict.Choice.{Choice}
+use Rattle.cs_apply_conflict_kinds.specs.declared.conflict.Choice.TheVariants as choice
+use Rattle.cs_apply_conflict_kinds.specs.declared.conflict.Noop.{Noop}
+use Rattle.cs_apply_conflict_kinds.specs.declared.conflict.Noop.TheVariants.{Report, Ignore}
 use Rattle.cs_shell_grammar.specs.declared.dot.Settings.{Settings}
 use Rattle.cs_shell_grammar.specs.Commands.{Apply, Setting, ForKind, ForNoop, option_of, setting_text, IsChosen}
 use Rattle.cs_shell_tokens.specs.Faults.{and_then}

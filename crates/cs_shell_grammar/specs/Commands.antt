@@ -3,12 +3,12 @@
 use Rattle.std.specs.Prelude.{◌≡◌, ◌≢◌, ◌⊎◌, ℕ, Bool, List, [], ◌∷◌, ◌++◌, length, map, true, false, codes, AllPairs, Contains, IsUtf8, string_bytes}
 use Rattle.cs_value.specs.declared.value.OwnedValue.{OwnedValue}
 use Rattle.cs_value.specs.declared.value.OwnedValue.TheVariants.{Null}
-use Rattle.cs_apply_conflicts.specs.declared.conflict.Kind.{Kind}
-use Rattle.cs_apply_conflicts.specs.declared.conflict.Kind.TheVariants as kind
-use Rattle.cs_apply_conflicts.specs.declared.conflict.Choice.{Choice}
-use Rattle.cs_apply_conflicts.specs.declared.conflict.Choice.TheVariants as choice
-use Rattle.cs_apply_conflicts.specs.declared.conflict.Noop.{Noop}
-use Rattle.cs_apply_conflicts.specs.declared.conflict.Noop.TheVariants.{Report, Ignore}
+use Rattle.cs_apply_conflict_kinds.specs.declared.conflict.Kind.{Kind}
+use Rattle.cs_apply_conflict_kinds.specs.declared.conflict.Kind.TheVariants as kind
+use Rattle.cs_apply_conflict_kinds.specs.declared.conflict.Choice.{Choice}
+use Rattle.cs_apply_conflict_kinds.specs.declared.conflict.Choice.TheVariants as choice
+use Rattle.cs_apply_conflict_kinds.specs.declared.conflict.Noop.{Noop}
+use Rattle.cs_apply_conflict_kinds.specs.declared.conflict.Noop.TheVariants.{Report, Ignore}
 use Rattle.cs_shell_grammar.specs.declared.command.Command.{Command}
 use Rattle.cs_shell_grammar.specs.declared.command.Command.TheVariants as command
 use Rattle.cs_shell_grammar.specs.declared.command.Assignment.{Assignment}

@@ -2,7 +2,7 @@
 ghost use Rattle.std.specs.Prelude.{◌≡◌};
 ghost use Rattle.cs_shell_grammar.specs.Commands.{kind_text, choice_text};
 
-use cs_apply_conflicts::{Choice, Kind};
+use cs_apply_conflict_kinds::{Choice, Kind};
 
 /// Returns the name of a kind of conflict.
 pub fn kind_name(kind: Kind) -> &'static str

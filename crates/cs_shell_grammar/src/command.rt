@@ -1,5 +1,5 @@
 //! What lines ask for.
-use cs_apply_rows::{Noop, Policy};
+use cs_apply_engine::{Noop, Policy};
 use cs_value::OwnedValue;
 
 /// A column and a value: an assignment or a condition.

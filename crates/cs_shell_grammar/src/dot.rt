@@ -9,7 +9,7 @@ ghost use Rattle.cs_shell_grammar.specs.DotReading.{chosen_in, noop_in, setting_
 ghost use Rattle.cs_shell_grammar.specs.DotReading.{session_in, dot_in};
 
 use crate::command::Command;
-use cs_apply_rows::{Choice, Kind, Noop, Policy};
+use cs_apply_engine::{Choice, Kind, Noop, Policy};
 use cs_shell_tokens::{
     Found, Token, TokenError, is_word, misfit_at, next_token, next_word, no_word, one_slot, slot,
     text,

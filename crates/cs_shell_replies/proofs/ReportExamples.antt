@@ -3,9 +3,9 @@ use Rattle.std.proofs.Common.{◌≡◌, false, Some, [], codes, refl}
 use Rattle.std.specs.Fmt.{digits}
 use Rattle.cs_wire_entries.specs.declared.entry.Change.TheVariants.{Insert}
 use Rattle.cs_wire.proofs.Examples.{row}
-use Rattle.cs_apply_conflicts.specs.declared.conflict.Kind.TheVariants.{Conflict}
-use Rattle.cs_apply_conflicts.specs.declared.conflict.Choice.TheVariants.{Replace}
-use Rattle.cs_apply_conflicts.specs.Applying.{ConflictData}
+use Rattle.cs_apply_conflict_kinds.specs.declared.conflict.Kind.TheVariants.{Conflict}
+use Rattle.cs_apply_conflict_kinds.specs.declared.conflict.Choice.TheVariants.{Replace}
+use Rattle.cs_apply_conflict_kinds.specs.Applying.{ConflictData}
 use Rattle.cs_value.specs.Quoting.{doubled}
 use Rattle.cs_shell_replies.specs.Report.{skip_text, met_text, ignored_text, count_text}
 

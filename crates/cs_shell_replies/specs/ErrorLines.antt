@@ -6,10 +6,10 @@ use Rattle.cs_value.specs.declared.refusal.OrNoMemory.TheVariants as tool
 use Rattle.cs_value.specs.Quoting.{quoted}
 use Rattle.cs_wire_entries.specs.declared.fault.ReadFault.{ReadFault}
 use Rattle.cs_wire.specs.ReadFaults as read
-use Rattle.cs_apply_rows.specs.declared.conflict.Conflict.{Conflict}
-use Rattle.cs_apply_rows.specs.declared.fault.ApplyFault.{ApplyFault}
-use Rattle.cs_apply_rows.specs.declared.fault.ApplyFault.TheVariants as apply
-use Rattle.cs_apply_rows.specs.Faults as applies
+use Rattle.cs_apply_engine.specs.declared.conflict.Conflict.{Conflict}
+use Rattle.cs_apply_engine.specs.declared.fault.ApplyFault.{ApplyFault}
+use Rattle.cs_apply_engine.specs.declared.fault.ApplyFault.TheVariants as apply
+use Rattle.cs_apply_engine.specs.Faults as applies
 use Rattle.cs_rows.specs.declared.fault.StoreError.{StoreError}
 use Rattle.cs_rows.specs.declared.fault.StoreError.TheVariants as store
 use Rattle.cs_rows.specs.Faults as stores

@@ -5,7 +5,7 @@ pub use Rattle.cs_value.specs.Value
 pub use Rattle.cs_value.specs.Quoting
 pub use Rattle.cs_wire.specs.Changeset
 pub use Rattle.cs_wire.specs.ReadFaults
-pub use Rattle.cs_apply_conflicts.specs.Applying
+pub use Rattle.cs_apply_conflict_kinds.specs.Applying
 pub use Rattle.cs_rows.specs.Faults
 pub use Rattle.cs_shell_grammar.specs.Commands
 pub use Rattle.cs_files.specs.Calls

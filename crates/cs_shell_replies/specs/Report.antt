@@ -1,10 +1,10 @@
 -- The text of what an apply did, which is this project's own.
 use Rattle.std.specs.Prelude.{ℕ, zero, suc, List, [], ◌++◌, map, codes, decimal, string_bytes}
 use Rattle.std.specs.List.{flat_map}
-use Rattle.cs_apply_conflicts.specs.Conflicts.{kind_number}
-use Rattle.cs_apply_conflicts.specs.Applying.{MetData}
-use Rattle.cs_apply_rows.specs.declared.report.Summary.{Summary}
-use Rattle.cs_apply_rows.specs.Report.{met_of}
+use Rattle.cs_apply_conflict_kinds.specs.Conflicts.{kind_number}
+use Rattle.cs_apply_conflict_kinds.specs.Applying.{MetData}
+use Rattle.cs_apply_engine.specs.declared.report.Summary.{Summary}
+use Rattle.cs_apply_engine.specs.Report.{met_of}
 use Rattle.cs_value.specs.Quoting.{quoted}
 use Rattle.cs_shell_grammar.specs.Commands.{kind_text, choice_text}
 

@@ -1,7 +1,7 @@
 //! The text of what an apply did.
 ghost use Rattle.std.specs.Prelude.{string_bytes};
 ghost use Rattle.std.specs.List.{flat_map};
-ghost use Rattle.cs_apply_rows.specs.Report.{met_of};
+ghost use Rattle.cs_apply_engine.specs.Report.{met_of};
 ghost use Rattle.cs_files.specs.Calls.{Writes};
 ghost use Rattle.cs_files.specs.Gathering.{Gathers};
 ghost use Rattle.cs_shell_replies.specs.Report.{skip_text, met_text, counted_text, ignored_text, count_text, report_of};

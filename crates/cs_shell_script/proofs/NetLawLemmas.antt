@@ -16,16 +16,16 @@ use Rattle.cs_rows.specs.declared.fault.StoreError.{StoreError}
 use Rattle.cs_rows.specs.declared.fault.StoreError.TheVariants.{KeyTaken, NoRow}
 use Rattle.cs_rows.proofs.WrittenRows.{same_schemas, rows_here, rows_other}
 use Rattle.cs_store.specs.Editing.{Edited, row_fault, unless, has_row, when, inserted_in, moved, updated_in, deleted_in, found_table, inserted, updated, deleted}
-use Rattle.cs_apply_conflicts.specs.declared.conflict.Noop.{Noop}
-use Rattle.cs_apply_conflicts.specs.declared.conflict.Noop.TheVariants as noop
-use Rattle.cs_apply_conflicts.specs.Applying.{written_under}
-use Rattle.cs_apply_conflicts.proofs.ApplyLemmas.{written_tells}
-use Rattle.cs_apply_rows.specs.declared.running.Direction.{Direction}
-use Rattle.cs_apply_rows.specs.declared.running.Direction.TheVariants.{Forward, Inverse}
-use Rattle.cs_apply_rows.specs.declared.report.Summary.{Summary}
-use Rattle.cs_apply_rows.specs.Running.{Handler, AppliesCounted, AlwaysAborts}
-use Rattle.cs_apply_rows.specs.Steps.{with_result}
-use Rattle.cs_apply_rows.proofs.WriteLemmas.{result_schemas, result_elsewhere}
+use Rattle.cs_apply_conflict_kinds.specs.declared.conflict.Noop.{Noop}
+use Rattle.cs_apply_conflict_kinds.specs.declared.conflict.Noop.TheVariants as noop
+use Rattle.cs_apply_conflict_kinds.specs.Applying.{written_under}
+use Rattle.cs_apply_conflict_kinds.proofs.ApplyLemmas.{written_tells}
+use Rattle.cs_apply_engine.specs.declared.running.Direction.{Direction}
+use Rattle.cs_apply_engine.specs.declared.running.Direction.TheVariants.{Forward, Inverse}
+use Rattle.cs_apply_engine.specs.declared.report.Summary.{Summary}
+use Rattle.cs_apply_engine.specs.Running.{Handler, AppliesCounted, AlwaysAborts}
+use Rattle.cs_apply_engine.specs.Steps.{with_result}
+use Rattle.cs_apply_engine.proofs.WriteLemmas.{result_schemas, result_elsewhere}
 use Rattle.cs_session.proofs.RewoundLemmas.{other_name}
 use Rattle.cs_shell_grammar.specs.Commands.{CommandData, AssignmentData}
 use Rattle.cs_shell_columns.specs.Rows.{with_assigned}

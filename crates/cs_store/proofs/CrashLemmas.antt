@@ -8,11 +8,11 @@ use Rattle.sqlite.specs.State.{State, HasCleanDisk, KeepsCommit, Shows, Survives
 use Rattle.sqlite.proofs.StateLemmas.{survives_then, survives_weaker}
 use Rattle.cs_value.specs.State as tables
 use Rattle.cs_rows.specs.declared.fault.StoreError.{StoreError}
-use Rattle.cs_store_records.specs.Records.{IsUndone, KeepsContent, KeepsCrash, KeepsOthers}
+use Rattle.cs_store_sql.specs.Records.{IsUndone, KeepsContent, KeepsCrash, KeepsOthers}
 use Rattle.cs_store_tables.specs.Store.{HoldsState, HoldsTables, IsStore, IsSound, IsInside, KeepsStore, Begins, Ends, tables_in}
 use Rattle.cs_store_tables.specs.Crash.{MayLeave, LeavesOnly, LeavesTakenOver, CanBegin, IsAtomic}
 use Rattle.cs_store_tables.specs.Laws.{was_clean}
-use Rattle.cs_store_records.proofs.ContentLemmas.{crash_then, crash_weaker}
+use Rattle.cs_store_sql.proofs.ContentLemmas.{crash_then, crash_weaker}
 use Rattle.cs_store_tables.proofs.WriteLemmas.{may_leave, shows_state}
 
 -- ---- what is committed

@@ -7,10 +7,10 @@ use Rattle.sqlite.specs.State.{State, HasCleanDisk}
 use Rattle.sqlite.specs.declared.error.Error.{Error}
 use Rattle.cs_value.specs.State as tables
 use Rattle.cs_rows.specs.declared.fault.Cause.{Cause}
-use Rattle.cs_store_records.specs.Failing.{Statement, LeadsTo, itself}
-use Rattle.cs_store_records.specs.Records.{KeepsCrash}
-use Rattle.cs_store_records.proofs.ContentLemmas.{crash_then}
-use Rattle.cs_store_records.proofs.ReadFailures.{read_to}
+use Rattle.cs_store_sql.specs.Failing.{Statement, LeadsTo, itself}
+use Rattle.cs_store_sql.specs.Records.{KeepsCrash}
+use Rattle.cs_store_sql.proofs.ContentLemmas.{crash_then}
+use Rattle.cs_store_sql.proofs.ReadFailures.{read_to}
 use Rattle.cs_store_tables.specs.Failing.{IsMade, BatchFails, BeginFails, CallFails, CommitFails, StoreFails}
 use Rattle.cs_store_tables.specs.Store.{Begins, KeepsStore}
 use Rattle.cs_store_tables.specs.Laws.{call_then, disk_then, was_clean}

@@ -20,13 +20,13 @@ use Rattle.cs_value.specs.State as tables
 use Rattle.cs_rows.specs.declared.fault.StoreError.{StoreError}
 use Rattle.cs_rows.specs.declared.fault.StoreError.TheVariants.{DamagedStore}
 use Rattle.cs_rows.specs.Faults.{IsResource}
-use Rattle.cs_store_records.specs.Records.{HoldsRecords, records_in}
-use Rattle.cs_store_bytes.specs.Stored.{version, Stores}
+use Rattle.cs_store_sql.specs.Records.{HoldsRecords, records_in}
+use Rattle.cs_store_encoding.specs.Stored.{version, Stores}
 use Rattle.cs_store_tables.specs.Store.{HoldsTables, IsDamaged, Adopts, tables_in}
 use Rattle.cs_store.specs.Opening.{IsLeftIn, IsFoundIn, OpensFiles, RefusesFound}
 use Rattle.cs_store_tables.specs.Crash.{MayLeave, LeavesOnly, IsLeftOf}
 use Rattle.cs_store_adoption.proofs.AdoptionLemmas.{nothing_held, vacant_holds, damaged_none}
-use Rattle.cs_store_bytes.proofs.StateOf.{stored_once}
+use Rattle.cs_store_encoding.proofs.StateOf.{stored_once}
 
 -- trees list one schema
 pub listed_once : (trees : Trees) (s t : Schema) → IsSoundIn s trees → IsSoundIn t trees → s ≡ t

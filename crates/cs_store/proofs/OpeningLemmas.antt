@@ -13,7 +13,7 @@ use Rattle.cs_rows.specs.declared.fault.StoreError.{StoreError}
 use Rattle.cs_rows.specs.declared.fault.StoreError.TheVariants.{DamagedStore}
 use Rattle.cs_rows.specs.Faults.{IsCaused, IsResource}
 use Rattle.cs_store_tables.specs.Failing.{AdoptFails}
-use Rattle.cs_store_records.specs.Records.{KeepsContent, LacksRecords}
+use Rattle.cs_store_sql.specs.Records.{KeepsContent, LacksRecords}
 use Rattle.cs_store_tables.specs.Store.{HoldsTables, IsDamaged, Adopts, tables_in}
 use Rattle.cs_store_tables.specs.Crash.{MayLeave, LeavesTakenOver}
 use Rattle.sqlite.proofs.ListingLemmas.{empty_is_sound}

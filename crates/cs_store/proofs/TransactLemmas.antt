@@ -6,8 +6,8 @@ use Rattle.sqlite_trees.specs.Tree.{Trees}
 use Rattle.sqlite.specs.Held.{Held, state}
 use Rattle.sqlite.specs.State.{State, HasCleanDisk, Survives}
 use Rattle.cs_value.specs.State as tables
-use Rattle.cs_store_records.specs.Records.{IsUndone, KeepsContent, KeepsCrash, KeepsOthers}
-use Rattle.cs_store_records.proofs.ContentLemmas.{crash_itself}
+use Rattle.cs_store_sql.specs.Records.{IsUndone, KeepsContent, KeepsCrash, KeepsOthers}
+use Rattle.cs_store_sql.proofs.ContentLemmas.{crash_itself}
 use Rattle.cs_store_tables.specs.Crash.{CanBegin, IsAtomic, LeavesOnly, MayLeave}
 use Rattle.cs_store_tables.specs.Laws.{was_clean}
 use Rattle.cs_store_tables.specs.Store.{Begins, Ends, KeepsStore, tables_in}

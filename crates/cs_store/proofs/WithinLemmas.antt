@@ -8,11 +8,11 @@ use Rattle.cs_rows.specs.declared.fault.Cause.{Cause}
 use Rattle.cs_rows.specs.declared.fault.StoreError.{StoreError}
 use Rattle.cs_rows.specs.Faults.{IsReadRefusal, is_answered}
 use Rattle.cs_rows.proofs.CauseLemmas.{own_or_not}
-use Rattle.cs_store_records.specs.Failing.{Statement, LeadsTo, itself}
-use Rattle.cs_store_records.specs.Marks.{HasMark, IsMarked}
-use Rattle.cs_store_records.specs.Records.{IsUndone, KeepsContent, KeepsCrash, KeepsOthers}
-use Rattle.cs_store_records.proofs.ContentLemmas.{crash_then}
-use Rattle.cs_store_records.proofs.ReadFailures.{read_to}
+use Rattle.cs_store_sql.specs.Failing.{Statement, LeadsTo, itself}
+use Rattle.cs_store_sql.specs.Marks.{HasMark, IsMarked}
+use Rattle.cs_store_sql.specs.Records.{IsUndone, KeepsContent, KeepsCrash, KeepsOthers}
+use Rattle.cs_store_sql.proofs.ContentLemmas.{crash_then}
+use Rattle.cs_store_sql.proofs.ReadFailures.{read_to}
 use Rattle.cs_store_tables.specs.Failing.{BatchFails, IsMade, LeadsOn, MarkFails, ReleaseFails}
 use Rattle.cs_store_tables.specs.Laws.{batch_then, disk_then, keeps_itself, mark_stays, was_clean}
 use Rattle.cs_store_tables.specs.Refusals.{cause_of}

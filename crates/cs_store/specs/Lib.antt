@@ -7,10 +7,10 @@ pub use Rattle.cs_store_tables.specs.Store
 pub use Rattle.cs_store_tables.specs.Crash
 pub use Rattle.cs_store_tables.specs.Failing
 pub use Rattle.cs_store_tables.specs.Laws
-pub use Rattle.cs_store_bytes.specs.Declaration
-pub use Rattle.cs_store_bytes.specs.Stored
-pub use Rattle.cs_store_bytes.specs.Valid
-pub use Rattle.cs_store_records.specs.Records
+pub use Rattle.cs_store_encoding.specs.Declaration
+pub use Rattle.cs_store_encoding.specs.Stored
+pub use Rattle.cs_store_encoding.specs.Valid
+pub use Rattle.cs_store_sql.specs.Records
 pub use Rattle.cs_rows.specs.Faults
 pub use Rattle.cs_rows.specs.Rows
 pub use Rattle.cs_rows.specs.Editing

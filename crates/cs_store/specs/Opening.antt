@@ -18,7 +18,7 @@ use Rattle.cs_rows.specs.declared.fault.StoreError.{StoreError}
 use Rattle.cs_rows.specs.declared.fault.StoreError.TheVariants.{DamagedStore}
 use Rattle.cs_rows.specs.Faults.{IsCaused, IsResource}
 use Rattle.cs_store_tables.specs.Failing.{AdoptFails}
-use Rattle.cs_store_records.specs.Records.{KeepsOthers}
+use Rattle.cs_store_sql.specs.Records.{KeepsOthers}
 use Rattle.cs_store.specs.declared.opening.Unopened.{Unopened}
 use Rattle.cs_store.specs.declared.opening.Unopened.TheVariants as unopened
 use Rattle.cs_store_tables.specs.Refusals.{refusal_for}

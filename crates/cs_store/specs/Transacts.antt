@@ -2,7 +2,7 @@
 use Rattle.std.specs.Prelude.{◌≡◌, IsTrue, Result, OnOk, OnErr}
 use Rattle.sqlite.specs.State.{State, HasCleanDisk}
 use Rattle.cs_value.specs.State as tables
-use Rattle.cs_store_records.specs.Records.{KeepsContent, KeepsOthers}
+use Rattle.cs_store_sql.specs.Records.{KeepsContent, KeepsOthers}
 use Rattle.cs_store_tables.specs.Crash.{CanBegin, IsAtomic, LeavesOnly}
 use Rattle.cs_store_tables.specs.Store.{IsAtRest, tables_in}
 

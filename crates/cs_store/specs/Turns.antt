@@ -6,7 +6,7 @@ use Rattle.sqlite.specs.State as sqlite
 use Rattle.sqlite.specs.State.{HasCleanDisk}
 use Rattle.sqlite.specs.Effect.{Database, IsDatabase}
 use Rattle.cs_value.specs.State.{State}
-use Rattle.cs_store_records.specs.Records.{KeepsOthers}
+use Rattle.cs_store_sql.specs.Records.{KeepsOthers}
 use Rattle.cs_store_tables.specs.Store.{IsAtRest, tables_in}
 
 -- a store shows these tables while its connection is open, whatever batch is; one whose connection a failure of the

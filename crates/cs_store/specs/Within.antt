@@ -3,8 +3,8 @@ use Rattle.std.specs.Prelude.{◌≡◌, ◌⊎◌, Bool, true, false, IsTrue, L
 use Rattle.sqlite.specs.Effect.{Database}
 use Rattle.sqlite.specs.State.{State, Savepoint, HasCleanDisk, Shows}
 use Rattle.cs_value.specs.State as tables
-use Rattle.cs_store_records.specs.Marks.{IsMarked}
-use Rattle.cs_store_records.specs.Records.{IsUndone, KeepsOthers}
+use Rattle.cs_store_sql.specs.Marks.{IsMarked}
+use Rattle.cs_store_sql.specs.Records.{IsUndone, KeepsOthers}
 use Rattle.cs_store_tables.specs.Store.{HoldsState, IsInside, KeepsStore, tables_in}
 
 -- If the disk has returned what was written: a call is accepted, the transaction is open, and `Makes` holds of its

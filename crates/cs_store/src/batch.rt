@@ -7,13 +7,13 @@ ghost use Rattle.cs_rows.specs.declared.fault.StoreError.TheVariants.{TableExist
 ghost use Rattle.cs_rows.specs.Faults.{IsCaused, IsResource, IsReadRefusal, is_answered};
 ghost use Rattle.cs_store_tables.specs.Failing.{BatchFails, CommitFails, IsDeclarationOf, LeadsOn};
 ghost use Rattle.cs_rows.specs.Rows.{IsDeclared};
-ghost use Rattle.cs_store_records.specs.Records.{IsUndone, KeepsCrash, KeepsOthers};
+ghost use Rattle.cs_store_sql.specs.Records.{IsUndone, KeepsCrash, KeepsOthers};
 ghost use Rattle.cs_store_tables.specs.Crash.{IsAtomic, LeavesOnly};
 ghost use Rattle.cs_store_tables.specs.Store.{AddsTable, Ends, IsInside, KeepsStore, tables_in};
 
 use crate::store::Store;
 use cs_rows::{Rows, Schema, StoreError};
-use cs_store_records::transactions;
+use cs_store_sql::transactions;
 use cs_store_tables::{commit, refused};
 use cs_value::{Key, Row};
 use sqlite::{Alter, Connection};

@@ -19,7 +19,7 @@ ghost use Rattle.cs_store.specs.Opening.{IsLeftIn, OpensFiles, RefusesDropped, R
 
 use crate::store::Store;
 use cs_rows::StoreError;
-use cs_store_records::RecordsError;
+use cs_store_sql::RecordsError;
 use cs_store_tables::refused;
 use sqlite::{Connection, FileFrom, FileStore, Files, Leftover, Options, Start};
 use sqlite_disk::Disk;

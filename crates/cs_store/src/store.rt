@@ -11,7 +11,7 @@ ghost use Rattle.cs_store_tables.specs.Failing.{AdoptFails, BeginFails, IsDeclar
 ghost use Rattle.cs_store_tables.specs.Failing.{StoreFails, Writes};
 ghost use Rattle.cs_rows.specs.Editing.{Declares, EditsInto, IsWriteOf, schema_of, edited, written_of};
 ghost use Rattle.cs_store_tables.specs.Crash.{CanBegin, IsAtomic, IsLeftOf, LeavesOnly, LeavesTakenOver, MayLeave};
-ghost use Rattle.cs_store_records.specs.Records.{KeepsContent, KeepsCrash, KeepsOthers, Rests};
+ghost use Rattle.cs_store_sql.specs.Records.{KeepsContent, KeepsCrash, KeepsOthers, Rests};
 ghost use Rattle.cs_rows.specs.Rows.{IsDeclared, Fits};
 ghost use Rattle.sqlite.specs.Effect.{IsDatabase};
 ghost use Rattle.sqlite.specs.State.{HasCleanDisk, IsUnchanged, Survives};
@@ -25,7 +25,7 @@ ghost use Rattle.cs_store.specs.Transacts.{Transacts};
 use crate::batch::SqlBatch;
 use cs_rows::{Edit, Schema, StoreError, Written, edit_in};
 use cs_store_adoption::adopt;
-use cs_store_records::{RecordsError, transactions};
+use cs_store_sql::{RecordsError, transactions};
 use cs_store_tables::{KnownTable, refused};
 use cs_value::{Key, Row, is_table_name};
 use sqlite::{Alter, Connection, MemStore};

@@ -12,8 +12,8 @@ ghost use Rattle.cs_rows.specs.declared.fault.StoreError.TheVariants.{NoTable as
 ghost use Rattle.cs_rows.specs.Faults.{IsCaused, IsResource, IsReadRefusal, IsEditRefusal, is_answered};
 ghost use Rattle.cs_rows.specs.Rows.{IsDeclared, Fits};
 ghost use Rattle.cs_rows.specs.Editing.{Declares, EditsInto, schema_of, IsWriteOf, edited, written_of};
-ghost use Rattle.cs_store_records.specs.Marks.{HasMark, IsMarked};
-ghost use Rattle.cs_store_records.specs.Records.{IsUndone, KeepsContent, KeepsCrash, KeepsOthers, Rests};
+ghost use Rattle.cs_store_sql.specs.Marks.{HasMark, IsMarked};
+ghost use Rattle.cs_store_sql.specs.Records.{IsUndone, KeepsContent, KeepsCrash, KeepsOthers, Rests};
 ghost use Rattle.cs_store_tables.specs.Crash.{IsAtomic, LeavesOnly};
 ghost use Rattle.cs_store_tables.specs.Failing.{BatchFails, BeginFails, CommitFails, IsDeclarationOf, LeadsOn, MarkFails};
 ghost use Rattle.cs_store_tables.specs.Failing.{ReadFails, ReleaseFails, Writes};
@@ -23,7 +23,7 @@ ghost use Rattle.cs_store.specs.Within.{EndsCall, HasBefore, Within};
 
 use crate::store::Store;
 use cs_rows::{Edit, Rows, Schema, StoreError, Written, edit_in};
-use cs_store_records::transactions;
+use cs_store_sql::transactions;
 use cs_store_tables::{commit, refused};
 use cs_value::{Key, Row, is_table_name};
 use sqlite::{Alter, Connection};

@@ -8,12 +8,12 @@ use Rattle.cs_rows.specs.declared.fault.Cause.{Cause}
 use Rattle.cs_rows.specs.declared.fault.StoreError.{StoreError}
 use Rattle.cs_rows.specs.declared.fault.StoreError.TheVariants.{DamagedStore, NoMemory}
 use Rattle.cs_rows.specs.Faults.{IsCaused}
-use Rattle.cs_store_records.specs.Records.{HoldsRecords, IsUnsupported, KeepsCrash, LacksRecords}
-use Rattle.cs_store_records.proofs.ContentLemmas.{crash_itself, crash_then}
-use Rattle.cs_store_records.proofs.ReadFailures.{read_to}
+use Rattle.cs_store_sql.specs.Records.{HoldsRecords, IsUnsupported, KeepsCrash, LacksRecords}
+use Rattle.cs_store_sql.proofs.ContentLemmas.{crash_itself, crash_then}
+use Rattle.cs_store_sql.proofs.ReadFailures.{read_to}
 use Rattle.cs_store_tables.specs.Failing.{HasMade, IsInside, ReadFails, SetUpFails, VersionFails, by_making, by_read, by_version, unsupported}
-use Rattle.cs_store_records.specs.Failing.{CannotMake, CannotRead, IsFailure}
-use Rattle.cs_store_records.specs.declared.fault.RecordsError.{RecordsError}
+use Rattle.cs_store_sql.specs.Failing.{CannotMake, CannotRead, IsFailure}
+use Rattle.cs_store_sql.specs.declared.fault.RecordsError.{RecordsError}
 use Rattle.cs_store_tables.specs.Refusals.{refusal_of}
 use Rattle.cs_store_tables.specs.Laws.{read_then}
 use Rattle.cs_store_tables.proofs.FailureLemmas.{caused, caused_so, so_caused}

@@ -10,24 +10,24 @@ use Rattle.sqlite.proofs.StateLemmas.{survives_then}
 use Rattle.cs_rows.specs.declared.fault.StoreError.{StoreError}
 use Rattle.cs_rows.specs.declared.fault.StoreError.TheVariants.{DamagedStore}
 use Rattle.cs_rows.specs.Faults.{IsResource}
-use Rattle.cs_store_records.specs.Records.{RecordData, record_of, HoldsRecords, AreNumbered, Pass, ListsTable, Sets, GoesOn, KeepsCrash, changed, records_of, records_in, record_rows, DeclaresRecords, LacksRecords, KeepsOthers}
-use Rattle.cs_store_records.proofs.TableLemmas.{not_lacking, not_declared, otherwise_used}
-use Rattle.cs_store_records.proofs.ContentLemmas.{crash_then}
-use Rattle.cs_store_records.proofs.TableLemmas.{others_then, others_itself}
-use Rattle.cs_store_bytes.specs.Stored.{version, stored_under, StoresIn}
-use Rattle.cs_store_bytes.specs.Valid.{AreValid, AreDeclared, IsGoodRow, Schemas}
+use Rattle.cs_store_sql.specs.Records.{RecordData, record_of, HoldsRecords, AreNumbered, Pass, ListsTable, Sets, GoesOn, KeepsCrash, changed, records_of, records_in, record_rows, DeclaresRecords, LacksRecords, KeepsOthers}
+use Rattle.cs_store_sql.proofs.TableLemmas.{not_lacking, not_declared, otherwise_used}
+use Rattle.cs_store_sql.proofs.ContentLemmas.{crash_then}
+use Rattle.cs_store_sql.proofs.TableLemmas.{others_then, others_itself}
+use Rattle.cs_store_encoding.specs.Stored.{version, stored_under, StoresIn}
+use Rattle.cs_store_encoding.specs.Valid.{AreValid, AreDeclared, IsGoodRow, Schemas}
 use Rattle.sqlite_trees.specs.View.{doubt}
 use Rattle.cs_store_tables.specs.Store.{HoldsState, HoldsNone, HoldsTables, IsDamaged, SetsUp, MemoryIsHonest, tables_in}
 use Rattle.cs_store_tables.specs.Crash.{MayLeave}
 use Rattle.cs_store_tables.specs.Laws.{was_clean}
-use Rattle.cs_store_bytes.specs.declared.version.Version.{Version}
-use Rattle.cs_store_bytes.specs.Versions.{bytes_of}
-use Rattle.cs_store_bytes.proofs.CheckLemmas.{is_version, checked_valid, valid_row}
-use Rattle.cs_store_records.proofs.ListedRows.{entry_there, row_there, there_row}
+use Rattle.cs_store_encoding.specs.declared.version.Version.{Version}
+use Rattle.cs_store_encoding.specs.Versions.{bytes_of}
+use Rattle.cs_store_encoding.proofs.CheckLemmas.{is_version, checked_valid, valid_row}
+use Rattle.cs_store_sql.proofs.ListedRows.{entry_there, row_there, there_row}
 use Rattle.sqlite_rules.proofs.ListLemmas.{all_has, all_from}
 use Rattle.std.specs.List.{AllByRecursion}
-use Rattle.cs_store_bytes.proofs.StoredLemmas.{not_former, stores_nothing}
-use Rattle.cs_store_bytes.proofs.ValidLemmas.{valid_stores, stores_valid}
+use Rattle.cs_store_encoding.proofs.StoredLemmas.{not_former, stores_nothing}
+use Rattle.cs_store_encoding.proofs.ValidLemmas.{valid_stores, stores_valid}
 use Rattle.cs_store_tables.proofs.WriteLemmas.{holds_next, may_leave}
 
 -- ---- no record

@@ -6,16 +6,16 @@ ghost use Rattle.sqlite.specs.Held.{state};
 ghost use Rattle.cs_rows.specs.declared.fault.StoreError.TheVariants.{DamagedStore as Damaged};
 ghost use Rattle.cs_rows.specs.Faults.{IsCaused, IsResource, IsReadRefusal};
 ghost use Rattle.cs_store_tables.specs.Failing.{AdoptFails, SetUpFails, VersionFails};
-ghost use Rattle.cs_store_records.specs.Records.{HoldsRecords, DeclaresRecords, LacksRecords, ListsTable, KeepsContent};
-ghost use Rattle.cs_store_records.specs.Records.{record_rows, records_in, KeepsCrash};
-ghost use Rattle.cs_store_bytes.specs.Valid.{AreValid};
-ghost use Rattle.cs_store_bytes.specs.Versions.{bytes_of};
+ghost use Rattle.cs_store_sql.specs.Records.{HoldsRecords, DeclaresRecords, LacksRecords, ListsTable, KeepsContent};
+ghost use Rattle.cs_store_sql.specs.Records.{record_rows, records_in, KeepsCrash};
+ghost use Rattle.cs_store_encoding.specs.Valid.{AreValid};
+ghost use Rattle.cs_store_encoding.specs.Versions.{bytes_of};
 ghost use Rattle.cs_store_tables.specs.Crash.{CanBegin, MayLeave};
 ghost use Rattle.cs_store_tables.specs.Store.{Adopts, HoldsNone, HoldsTables, IsDamaged, SetsUp, IsInside};
 
 use cs_rows::{Cause, StoreError};
-use cs_store_bytes::{VERSION, Version, read_schemas, read_version};
-use cs_store_records::{
+use cs_store_encoding::{VERSION, Version, read_schemas, read_version};
+use cs_store_sql::{
     Declaration, Keyed, RecordTest, all_pass, declaration_of, list_records, make_table, put_record,
     transactions,
 };

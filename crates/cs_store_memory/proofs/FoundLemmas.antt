@@ -15,10 +15,10 @@ use Rattle.cs_value.specs.State as tables
 use Rattle.cs_rows.specs.declared.fault.StoreError.{StoreError}
 use Rattle.cs_rows.specs.declared.fault.StoreError.TheVariants.{DamagedStore}
 use Rattle.cs_rows.specs.Faults.{IsResource, IsStoreFault, refused_for}
-use Rattle.cs_store_records.specs.Faults as records_faults
-use Rattle.cs_store_records.specs.declared.fault.RecordsError.{RecordsError}
-use Rattle.cs_store_records.specs.declared.fault.RecordsError.TheVariants as records
-use Rattle.cs_store_records.specs.Records.{records_in}
+use Rattle.cs_store_sql.specs.Faults as records_faults
+use Rattle.cs_store_sql.specs.declared.fault.RecordsError.{RecordsError}
+use Rattle.cs_store_sql.specs.declared.fault.RecordsError.TheVariants as records
+use Rattle.cs_store_sql.specs.Records.{records_in}
 use Rattle.cs_store_tables.specs.Refusals.{cause_of, refusal_for, refusal_of}
 use Rattle.cs_store_tables.specs.Store.{Adopts, HoldsTables, IsDamaged, tables_in}
 use Rattle.cs_store.specs.Stored.{Stores, version}

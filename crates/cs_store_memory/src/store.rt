@@ -12,7 +12,7 @@ ghost use Rattle.cs_store_memory.specs.Memory.{alone, bytes_of, FindsTables, Has
 
 use crate::file::MemoryFile;
 use cs_store::{Store, StoreError};
-use cs_store_records::RecordsError;
+use cs_store_sql::RecordsError;
 use cs_store_tables::refused;
 use sqlite::{Connection, FileStore, Files, Options};
 use std::alloc::Global;

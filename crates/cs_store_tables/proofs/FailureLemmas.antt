@@ -1,20 +1,20 @@
 -- For which causes a call on a store fails.
 use Rattle.std.proofs.Common.{◌≡◌, inl, inr, ℕ, [], false, Result, Ok, Err, IfErr, OnOk, sym, subst, MatchResult, IsErrAnd, IsTrue, refl, List, None, true, true≢false, ◌∙◌, Bool}
 use Rattle.cs_store_tables.specs.Failing.{IsMade, LeadsOn, WriteFails, BatchFails, IsDeclarationOf, IsCauseOf, ReadFails, IsApt, PutFails, RemoveFails, Writes}
-use Rattle.cs_store_records.specs.Failing.{Statement, CannotWrite, FailsAt, IsFailure, CannotRead, puts, EndsAs, LeadsTo, itself, by_each, removes}
-use Rattle.cs_store_records.proofs.WriteFailures.{write_fails}
+use Rattle.cs_store_sql.specs.Failing.{Statement, CannotWrite, FailsAt, IsFailure, CannotRead, puts, EndsAs, LeadsTo, itself, by_each, removes}
+use Rattle.cs_store_sql.proofs.WriteFailures.{write_fails}
 use Rattle.sqlite.specs.Effect.{Database as Shown}
 use Rattle.sqlite.specs.State.{State, HasCleanDisk, IsUnchanged}
 use Rattle.sqlite.specs.declared.error.Error.{Error}
 use Rattle.cs_rows.specs.declared.fault.Cause.{Cause}
 use Rattle.cs_rows.specs.declared.fault.StoreError.{StoreError}
 use Rattle.cs_rows.specs.Faults.{IsCaused, IsReadRefusal, is_answered}
-use Rattle.cs_store_records.specs.declared.fault.RecordsError.{RecordsError}
-use Rattle.cs_store_records.specs.declared.fault.RecordsError.TheVariants.{NoMemory, Database}
-use Rattle.cs_store_records.specs.Records.{DeclaresRecords, HoldsRecords, KeepsCrash, records_in, GoesOn}
+use Rattle.cs_store_sql.specs.declared.fault.RecordsError.{RecordsError}
+use Rattle.cs_store_sql.specs.declared.fault.RecordsError.TheVariants.{NoMemory, Database}
+use Rattle.cs_store_sql.specs.Records.{DeclaresRecords, HoldsRecords, KeepsCrash, records_in, GoesOn}
 use Rattle.cs_value.specs.declared.value.OwnedValue.{OwnedValue}
 use Rattle.cs_value.specs.Spelling.{row_bytes}
-use Rattle.cs_store_bytes.specs.Declaration.{declaration_bytes}
+use Rattle.cs_store_encoding.specs.Declaration.{declaration_bytes}
 use Rattle.cs_store_tables.specs.Refusals.{refusal_of}
 use Rattle.cs_store_tables.specs.Store.{IsSound, tables_in}
 use Rattle.cs_store_tables.specs.Laws.{leads_so, was_clean}

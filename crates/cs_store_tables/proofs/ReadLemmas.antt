@@ -10,15 +10,15 @@ use Rattle.cs_value.proofs.StateLemmas.{row_at_fits}
 use Rattle.sqlite.specs.Effect.{Database}
 use Rattle.sqlite.specs.State.{State, HasCleanDisk, IsUnchanged}
 use Rattle.cs_rows.specs.declared.fault.StoreError.{StoreError}
-use Rattle.cs_store_bytes.specs.Declaration.{declaration_bytes}
+use Rattle.cs_store_encoding.specs.Declaration.{declaration_bytes}
 use Rattle.cs_rows.specs.Faults.{IsResource}
-use Rattle.cs_store_records.specs.Records.{KeepsCrash, record_rows, records_in}
+use Rattle.cs_store_sql.specs.Records.{KeepsCrash, record_rows, records_in}
 use Rattle.cs_store_tables.specs.Store.{HoldsState, IsSound, Recovers, tables_in}
-use Rattle.cs_store_bytes.specs.Stored.{state_of, table_in}
+use Rattle.cs_store_encoding.specs.Stored.{state_of, table_in}
 use Rattle.cs_rows.specs.Rows.{Fits, IsRowIn}
 use Rattle.cs_rows.proofs.MemoryLemmas.{row_at_found, row_at_absent, rows_at_absent}
-use Rattle.cs_store_bytes.proofs.StoredLemmas.{declaration_stored, row_stored}
-use Rattle.cs_store_bytes.proofs.StateOf.{get_unread}
+use Rattle.cs_store_encoding.proofs.StoredLemmas.{declaration_stored, row_stored}
+use Rattle.cs_store_encoding.proofs.StateOf.{get_unread}
 use Rattle.cs_store_tables.specs.Laws.{was_clean}
 
 -- a sound store that was read shows a state

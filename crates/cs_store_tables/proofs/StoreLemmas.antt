@@ -3,11 +3,11 @@ use Rattle.std.proofs.Common.{◌≡◌, true, false, IsTrue, Result, Ok, Err, O
 use Rattle.std.proofs.lemmas.Bool.{cases_Bool}
 use Rattle.sqlite.specs.Effect.{Database}
 use Rattle.sqlite.specs.State.{State, HasCleanDisk, KeepsCommit, Shows, IsUnchanged, IsRolledBack}
-use Rattle.cs_store_records.specs.Records.{Rests, GoesOn, IsUndone, KeepsContent, KeepsCrash, KeepsOthers}
+use Rattle.cs_store_sql.specs.Records.{Rests, GoesOn, IsUndone, KeepsContent, KeepsCrash, KeepsOthers}
 use Rattle.cs_store_tables.specs.Store.{HoldsState, IsStore, IsSound, Adopts, Begins, KeepsStore}
 use Rattle.cs_store_tables.specs.Laws.{was_clean}
-use Rattle.cs_store_records.proofs.ContentLemmas.{rests_keeps_content, rests_commit}
-use Rattle.cs_store_records.proofs.TableLemmas.{others_then, others_itself}
+use Rattle.cs_store_sql.proofs.ContentLemmas.{rests_keeps_content, rests_commit}
+use Rattle.cs_store_sql.proofs.TableLemmas.{others_then, others_itself}
 
 -- what is shown and was committed last is as it was, or one database
 others_same : (old new : State) → new.now ≡ old.now → new.committed ≡ old.committed → KeepsOthers old.committed old.now → KeepsOthers new.committed new.now

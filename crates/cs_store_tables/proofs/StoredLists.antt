@@ -16,10 +16,10 @@ use Rattle.cs_value.specs.State.{SchemaData, RowMap, TableData, State, IsState, 
 use Rattle.cs_value.proofs.KeyedRows.{length-IsKeyedRow}
 use Rattle.cs_value.proofs.Spellings.{row_bytes_same}
 use Rattle.sqlite_rules.proofs.ListLemmas.{all_from}
-use Rattle.cs_store_records.specs.Records.{Records, ListsTable}
-use Rattle.cs_store_records.proofs.ListedRows.{find_own}
-use Rattle.cs_store_bytes.specs.Declaration.{declaration_bytes}
-use Rattle.cs_store_bytes.specs.Stored.{version, Stores}
+use Rattle.cs_store_sql.specs.Records.{Records, ListsTable}
+use Rattle.cs_store_sql.proofs.ListedRows.{find_own}
+use Rattle.cs_store_encoding.specs.Declaration.{declaration_bytes}
+use Rattle.cs_store_encoding.specs.Stored.{version, Stores}
 use Rattle.cs_rows.specs.declared.fault.StoreError.{StoreError}
 use Rattle.cs_rows.specs.declared.fault.StoreError.TheVariants.{DamagedStore}
 use Rattle.cs_rows.specs.Faults.{IsResource, IsReadRefusal}
@@ -28,7 +28,7 @@ use Rattle.cs_store_tables.specs.Store.{AreNamed, AreStored, RecoversList}
 use Rattle.cs_value.proofs.ListLemmas.{AllByRecursion-push}
 use Rattle.std.proofs.lemmas.List.{map-append}
 use Rattle.cs_rows.proofs.MemoryLemmas.{rows_at_found}
-use Rattle.cs_store_bytes.proofs.StoredLemmas.{row_stored}
+use Rattle.cs_store_encoding.proofs.StoredLemmas.{row_stored}
 
 -- entries by lists of bytes, and whether their keys rise
 abbrev Entries : Type 0 → Type 0

@@ -2,19 +2,19 @@
 use Rattle.std.proofs.Common.{◌≡◌, ℕ, List, [], MatchResult, IsErrAnd, Option, Some, None, option_map, Result, Ok, Err, OnOk, OnErr, IsTrue, refl, sym, ap, subst, ◌∙◌}
 use Rattle.std.specs.FinMap as map
 use Rattle.cs_value.specs.Table.{IsName}
-use Rattle.cs_store_bytes.specs.Declaration.{declaration_bytes}
+use Rattle.cs_store_encoding.specs.Declaration.{declaration_bytes}
 use Rattle.cs_value.specs.declared.value.OwnedValue.{OwnedValue}
 use Rattle.cs_value.specs.Spelling.{row_bytes}
 use Rattle.cs_value.specs.State as tables
 use Rattle.sqlite_trees.specs.Tree.{Trees}
 use Rattle.sqlite.specs.Effect.{Database}
 use Rattle.sqlite.specs.State.{State, HasCleanDisk}
-use Rattle.cs_store_records.specs.Records.{HoldsRecords, Sets, KeepsOthers, GoesOn, Rests, KeepsCrash, record_rows, records_in}
+use Rattle.cs_store_sql.specs.Records.{HoldsRecords, Sets, KeepsOthers, GoesOn, Rests, KeepsCrash, record_rows, records_in}
 use Rattle.cs_rows.specs.Rows.{IsDeclared, Fits}
-use Rattle.cs_store_bytes.specs.Stored.{Stores}
+use Rattle.cs_store_encoding.specs.Stored.{Stores}
 use Rattle.cs_store_tables.specs.Store.{HoldsState, IsSound, KeepsStore, tables_in}
-use Rattle.cs_store_bytes.proofs.StateOf.{state_is}
-use Rattle.cs_store_bytes.proofs.StoredLemmas.{stores_row, stores_no_row, stores_table}
+use Rattle.cs_store_encoding.proofs.StateOf.{state_is}
+use Rattle.cs_store_encoding.proofs.StoredLemmas.{stores_row, stores_no_row, stores_table}
 use Rattle.cs_store_tables.specs.Crash.{MayLeave}
 use Rattle.cs_store_tables.specs.Laws.{was_clean}
 use Rattle.cs_store_tables.proofs.StoreLemmas.{rests_keeps, write_keeps}

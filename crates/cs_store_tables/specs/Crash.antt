@@ -5,7 +5,7 @@ use Rattle.sqlite_trees.specs.Tree.{Trees}
 use Rattle.sqlite.specs.Effect.{Database, IsDatabase}
 use Rattle.sqlite.specs.State.{State, HasCleanDisk, Survives}
 use Rattle.cs_value.specs.State as tables
-use Rattle.cs_store_records.specs.Records.{KeepsCrash}
+use Rattle.cs_store_sql.specs.Records.{KeepsCrash}
 use Rattle.cs_store_tables.specs.Store.{HoldsState, HoldsTables, tables_in}
 
 -- with the schema of a store, the trees are those of a state: so they are adopted as a store, with its tables, and of

@@ -11,13 +11,13 @@ use Rattle.cs_value.specs.declared.value.OwnedValue.{OwnedValue}
 use Rattle.cs_value.specs.Spelling.{row_bytes}
 use Rattle.cs_rows.specs.declared.fault.Cause.{Cause}
 use Rattle.cs_rows.specs.declared.fault.Cause.TheVariants.{Other}
-use Rattle.cs_store_records.specs.Records.{records_in, record_rows, HoldsRecords, IsUnsupported, KeepsCrash, KeepsOthers, LacksRecords}
+use Rattle.cs_store_sql.specs.Records.{records_in, record_rows, HoldsRecords, IsUnsupported, KeepsCrash, KeepsOthers, LacksRecords}
 use Rattle.cs_rows.specs.Rows.{Write, puts_row, removes_row}
 use Rattle.cs_value.specs.State as tables
-use Rattle.cs_store_bytes.specs.Declaration.{declaration_bytes}
-use Rattle.cs_store_bytes.specs.Stored.{version}
-use Rattle.cs_store_records.specs.Failing.{Statement, puts, removes, FailsAt, CannotMake, CannotRead, CannotWrite}
-use Rattle.cs_store_records.specs.Failing.{HasDiskFailed, IsMisplaced, LeadsTo, Refuses}
+use Rattle.cs_store_encoding.specs.Declaration.{declaration_bytes}
+use Rattle.cs_store_encoding.specs.Stored.{version}
+use Rattle.cs_store_sql.specs.Failing.{Statement, puts, removes, FailsAt, CannotMake, CannotRead, CannotWrite}
+use Rattle.cs_store_sql.specs.Failing.{HasDiskFailed, IsMisplaced, LeadsTo, Refuses}
 use Rattle.cs_store_tables.specs.Refusals.{cause_of}
 use Rattle.cs_store_tables.specs.Store.{tables_in}
 

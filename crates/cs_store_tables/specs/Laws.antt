@@ -10,10 +10,10 @@ use Rattle.sqlite_trees.specs.Tree.{Trees}
 use Rattle.sqlite.specs.State.{State, Savepoint, HasCleanDisk, IsUnchanged, KeepsCounts, Survives}
 use Rattle.sqlite.proofs.StateLemmas.{survives_then}
 use Rattle.cs_value.specs.State as tables
-use Rattle.cs_store_records.specs.Failing.{Statement, LeadsTo, itself, by_each, CannotRead, HasDiskFailed, IsHindered, Refuses}
-use Rattle.cs_store_records.specs.Marks.{IsMarked}
-use Rattle.cs_store_records.specs.Records.{KeepsContent, KeepsCrash, Rests}
-use Rattle.cs_store_records.proofs.ContentLemmas.{crash_itself}
+use Rattle.cs_store_sql.specs.Failing.{Statement, LeadsTo, itself, by_each, CannotRead, HasDiskFailed, IsHindered, Refuses}
+use Rattle.cs_store_sql.specs.Marks.{IsMarked}
+use Rattle.cs_store_sql.specs.Records.{KeepsContent, KeepsCrash, Rests}
+use Rattle.cs_store_sql.proofs.ContentLemmas.{crash_itself}
 use Rattle.cs_store_tables.specs.Crash.{LeavesOnly}
 use Rattle.cs_rows.specs.Rows.{Write}
 use Rattle.cs_store_tables.specs.Failing.{BatchFails, CallFails, IsMade, IsRefused, LeadsOn, ReadFails, Writes}

@@ -2,9 +2,9 @@
 use Rattle.sqlite.specs.declared.error.Error.{Error}
 use Rattle.sqlite.specs.declared.error.Error.TheVariants.{SqliteFailure}
 use Rattle.sqlite.specs.declared.error.ErrorCode.TheVariants as code
-use Rattle.cs_store_records.specs.Faults as records_faults
-use Rattle.cs_store_records.specs.declared.fault.RecordsError.{RecordsError}
-use Rattle.cs_store_records.specs.declared.fault.RecordsError.TheVariants as records
+use Rattle.cs_store_sql.specs.Faults as records_faults
+use Rattle.cs_store_sql.specs.declared.fault.RecordsError.{RecordsError}
+use Rattle.cs_store_sql.specs.declared.fault.RecordsError.TheVariants as records
 use Rattle.cs_rows.specs.declared.fault.Cause.{Cause}
 use Rattle.cs_rows.specs.declared.fault.Cause.TheVariants as cause
 use Rattle.cs_rows.specs.declared.fault.StoreError.{StoreError}

@@ -15,8 +15,8 @@ use Rattle.sqlite.specs.Steps.{over_memory}
 use Rattle.sqlite.specs.State.{State, HasCleanDisk, Shows, KeepsCommit}
 use Rattle.cs_rows.specs.declared.fault.StoreError.{StoreError}
 use Rattle.cs_rows.specs.Faults.{IsResource}
-use Rattle.cs_store_records.specs.Records.{HoldsRecords, DeclaresRecords, IsDeclaredOtherwise, LacksRecords, KeepsOthers, record_rows, records_in, GoesOn, KeepsContent, KeepsCrash}
-use Rattle.cs_store_bytes.specs.Stored.{Stores, StoresInSome, state_of}
+use Rattle.cs_store_sql.specs.Records.{HoldsRecords, DeclaresRecords, IsDeclaredOtherwise, LacksRecords, KeepsOthers, record_rows, records_in, GoesOn, KeepsContent, KeepsCrash}
+use Rattle.cs_store_encoding.specs.Stored.{Stores, StoresInSome, state_of}
 use Rattle.cs_rows.specs.Rows.{IsRowIn}
 
 -- the state that the records of a database are of

@@ -5,12 +5,12 @@ ghost use Rattle.sqlite.specs.State.{HasCleanDisk, Savepoint, Shows, Survives};
 ghost use Rattle.sqlite.specs.Held.{state};
 ghost use Rattle.cs_rows.specs.Faults.{IsCaused, IsResource};
 ghost use Rattle.cs_store_tables.specs.Failing.{CommitFails, MarkFails, ReleaseFails};
-ghost use Rattle.cs_store_records.specs.Marks.{HasMark, IsMarked};
-ghost use Rattle.cs_store_records.specs.Records.{IsUndone, KeepsCrash};
+ghost use Rattle.cs_store_sql.specs.Marks.{HasMark, IsMarked};
+ghost use Rattle.cs_store_sql.specs.Records.{IsUndone, KeepsCrash};
 
 use crate::refusal::refused;
 use cs_rows::StoreError;
-use cs_store_records::transactions;
+use cs_store_sql::transactions;
 use sqlite::{Alter, Connection};
 
 /// Commits the transaction of a connection.

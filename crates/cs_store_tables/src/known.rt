@@ -12,7 +12,7 @@ ghost use Rattle.cs_store_tables.specs.Failing.{BatchFails, IsDeclarationOf, Lea
 ghost use Rattle.cs_store_tables.specs.Store.{AddsTable, IsFreeKey, IsSound, KeepsStore, Knows, RefusesShut};
 ghost use Rattle.cs_store_tables.specs.Store.{tables_in, without_free_key};
 ghost use Rattle.sqlite.specs.State.{HasCleanDisk, IsUnchanged};
-ghost use Rattle.cs_store_records.specs.Records.{Rests};
+ghost use Rattle.cs_store_sql.specs.Records.{Rests};
 ghost use Rattle.sqlite.specs.Held.{state};
 
 use crate::tables;

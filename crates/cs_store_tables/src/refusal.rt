@@ -4,7 +4,7 @@ ghost use Rattle.cs_rows.specs.Faults.{IsResource};
 ghost use Rattle.cs_store_tables.specs.Refusals.{refusal_of};
 
 use cs_rows::{Cause, StoreError};
-use cs_store_records::RecordsError;
+use cs_store_sql::RecordsError;
 use sqlite::{Error, ErrorCode};
 
 /// Returns the refusal of a store whose records are refused.

@@ -9,12 +9,12 @@ ghost use Rattle.cs_value.specs.declared.value.OwnedValue.{OwnedValue};
 ghost use Rattle.cs_value.specs.Spelling.{row_bytes};
 ghost use Rattle.cs_value.specs.State.{SchemaData, IsSchema, schema_at, row_at, rows_at};
 ghost use Rattle.cs_value.specs.State.{with_row, without_row};
-ghost use Rattle.cs_store_bytes.specs.Declaration.{declaration_bytes};
+ghost use Rattle.cs_store_encoding.specs.Declaration.{declaration_bytes};
 ghost use Rattle.sqlite.specs.State.{HasCleanDisk, IsUnchanged};
-ghost use Rattle.cs_store_records.specs.Records.{Rests};
+ghost use Rattle.cs_store_sql.specs.Records.{Rests};
 ghost use Rattle.sqlite.specs.Held.{state};
 ghost use Rattle.cs_rows.specs.Faults.{IsCaused, IsResource, IsReadRefusal};
-ghost use Rattle.cs_store_records.specs.Failing.{puts, removes};
+ghost use Rattle.cs_store_sql.specs.Failing.{puts, removes};
 ghost use Rattle.cs_store_tables.specs.Failing.{IsDeclarationOf, LeadsOn, ReadFails, WriteFails};
 ghost use Rattle.cs_rows.specs.Rows.{IsDeclared, Fits, IsRowIn};
 ghost use Rattle.cs_store_tables.specs.Store.{IsSound, KeepsStore, Recovers, RecoversList, RefusesShut};
@@ -22,8 +22,8 @@ ghost use Rattle.cs_store_tables.specs.Store.{AddsTable, AreNamed, AreStored, Ho
 
 use crate::refusal::refused;
 use cs_rows::{Schema, StoreError};
-use cs_store_bytes::{read_declaration, read_name, read_row, write_declaration};
-use cs_store_records::{Keyed, find_record, list_records, put_record, remove_record};
+use cs_store_encoding::{read_declaration, read_name, read_row, write_declaration};
+use cs_store_sql::{Keyed, find_record, list_records, put_record, remove_record};
 use cs_value::{Key, Row, row_write};
 use sqlite::{Alter, Connection};
 use std::alloc::Global;

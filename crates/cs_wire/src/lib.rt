@@ -28,7 +28,7 @@
 //! the tables that `reader` reads. `indices` finds entries and groups, and `laws` has the laws of all changesets. The
 //! names of `cs_wire_entries` are passed on. `CALLING.md`, next to this folder, shows a caller.
 //!
-//! `read_header`, `has_entry`, `read_entry`, `KeyColumns` and `word_of` are for the crate above, `cs_file_tables`.
+//! `read_header`, `has_entry`, `read_entry`, `KeyColumns` and `word_of` are for the crate above, `cs_file_scan`.
 #![tactic(auto)]
 
 mod changeset;

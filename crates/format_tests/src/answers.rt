@@ -1,6 +1,6 @@
 //! Answers of stores, and their bytes.
 
-use cs_apply_conflicts::{Choice, Kind};
+use cs_apply_conflict_kinds::{Choice, Kind};
 use cs_calls_answers::{Answer, CallError, answer_read, answer_write};
 use cs_value::Fault;
 use std::process::Abort;

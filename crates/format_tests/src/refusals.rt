@@ -2,7 +2,7 @@
 
 use crate::DELETE;
 use crate::faults::{expect_named, expect_text};
-use cs_apply_rows::{ApplyFault, Choice, Conflict, Direction, Noop, run_in};
+use cs_apply_engine::{ApplyFault, Choice, Conflict, Direction, Noop, run_in};
 use cs_rows::{Cause, MemRows, StoreError};
 use std::process::Abort;
 

@@ -1,6 +1,6 @@
 //! Calls of stores, and their bytes.
 
-use cs_apply_rows::{Choice, Noop};
+use cs_apply_engine::{Choice, Noop};
 use cs_calls_requests::{Call, CallError, call_read, call_write};
 use cs_value::Fault;
 use std::process::Abort;

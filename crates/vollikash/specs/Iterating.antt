@@ -3,8 +3,8 @@ use Rattle.std.specs.Prelude.{◌≡◌, ◌⊎◌, ℤ, pos}
 use Rattle.cs_value.specs.declared.refusal.OrNoMemory.TheVariants.{Fault}
 use Rattle.cs_wire_entries.specs.declared.fault.ReadFault.{ReadFault}
 use Rattle.cs_files.specs.declared.fault.FileFault.TheVariants.{First}
-use Rattle.cs_file_changes.specs.declared.value.Side.{Side}
-use Rattle.cs_file_changes.specs.declared.value.Side.TheVariants.{Old, New}
+use Rattle.cs_file_iterator.specs.declared.value.Side.{Side}
+use Rattle.cs_file_iterator.specs.declared.value.Side.TheVariants.{Old, New}
 use Rattle.vollikash.specs.declared.answer.FaultReport.{FaultReport}
 use Rattle.vollikash.specs.declared.answer.TheConstants.{OK, DONE}
 use Rattle.vollikash.specs.Answers.{report_of}

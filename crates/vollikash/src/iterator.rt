@@ -6,16 +6,16 @@ ghost use Rattle.cs_wire_entries.specs.declared.fault.ReadFaultKind.TheVariants.
 ghost use Rattle.cs_wire_entries.specs.Changeset.{GroupData, HeaderData, IsFileOf, IsHeader, header_bytes};
 ghost use Rattle.cs_wire_entries.specs.ReadFaults.{HasEntry, Stands};
 ghost use Rattle.cs_files.specs.declared.fault.FileFault.TheVariants.{First};
-ghost use Rattle.cs_file_changes.specs.Changes.{ChangesLeft, IsStep, LiesIn, Shows, TableChange};
-ghost use Rattle.cs_file_changes.specs.Readable.{AreAll, IsUnreadable, ReadsOn, WereRead};
-ghost use Rattle.cs_file_changes.specs.Values.{ShowsValue};
+ghost use Rattle.cs_file_iterator.specs.Changes.{ChangesLeft, IsStep, LiesIn, Shows, TableChange};
+ghost use Rattle.cs_file_iterator.specs.Readable.{AreAll, IsUnreadable, ReadsOn, WereRead};
+ghost use Rattle.cs_file_iterator.specs.Values.{ShowsValue};
 ghost use Rattle.vollikash.specs.Answers.{no_fault, report_of};
 ghost use Rattle.vollikash.specs.Iterating.{IsStepCode, TellsFault, side_number};
-ghost use Rattle.cs_file_changes.specs.declared.value.Side.{Side as SideData};
-ghost use Rattle.cs_file_changes.specs.Values.{field_on};
+ghost use Rattle.cs_file_iterator.specs.declared.value.Side.{Side as SideData};
+ghost use Rattle.cs_file_iterator.specs.Values.{field_on};
 
 use crate::answer::{DONE, FaultReport, OK, RANGE, report, report_plain};
-use cs_file_changes::{ChangeSpan, Side, ValueSpan, change_value, next_change};
+use cs_file_iterator::{ChangeSpan, Side, ValueSpan, change_value, next_change};
 use cs_files::first_fault;
 use cs_value::Fault;
 use cs_wire_entries::ReadError;

@@ -4,7 +4,7 @@ ghost use Rattle.std.specs.List.{flat_map};
 ghost use Rattle.cs_wire_entries.specs.declared.entry.Entry.{Entry as EntryData};
 ghost use Rattle.cs_wire.specs.Changeset.{GroupData};
 ghost use Rattle.cs_wire.specs.Headers.{header_of};
-ghost use Rattle.cs_file_tables.specs.Tables.{EntriesLeft};
+ghost use Rattle.cs_file_scan.specs.Tables.{EntriesLeft};
 ghost use Rattle.cs_file_texts.specs.Gathering.{Gathers};
 ghost use Rattle.cs_file_texts.specs.Forms.{header_part, entry_part, form_text};
 
@@ -12,7 +12,7 @@ use crate::fault::OutputFault;
 use crate::gather::Gather;
 use crate::texts::form::{Form, add_entry, add_header};
 use crate::told::Told;
-use cs_file_tables::Tables;
+use cs_file_scan::Tables;
 use cs_wire::HeaderRef;
 use std::io::Write;
 

@@ -2,11 +2,11 @@
 ghost use Rattle.std.specs.Prelude.{◌≡◌, ◌↔◌, List, IfNone, IfSome, IsTrue};
 ghost use Rattle.cs_wire.specs.Changeset.{GroupData, IsChangeset};
 ghost use Rattle.cs_wire.specs.Headers.{header_of};
-ghost use Rattle.cs_file_tables.specs.Named.{AreListed};
+ghost use Rattle.cs_file_scan.specs.Named.{AreListed};
 ghost use Rattle.cs_group.specs.Joining.{AgreesWith, AreJoinable, FirstClash, key_marks, table_name, with_text};
 ghost use Rattle.cs_files.specs.Writing.{IsPartner};
 
-use cs_file_tables::{NamedTables, Tables};
+use cs_file_scan::{NamedTables, Tables};
 use cs_group::have_same_columns;
 use cs_wire::HeaderRef;
 

@@ -4,15 +4,15 @@ ghost use Rattle.std.specs.Prelude.{filter_map, if◌then◌else◌, is_none, le
 ghost use Rattle.cs_wire_entries.specs.declared.entry.Entry.{Entry as EntryData};
 ghost use Rattle.cs_wire.specs.Entry.{entry_bytes, key_of};
 ghost use Rattle.cs_wire.specs.Changeset.{GroupData, entries_bytes};
-ghost use Rattle.cs_file_tables.specs.KeyedFile.{AreKeyed, count_of};
-ghost use Rattle.cs_file_tables.specs.Tables.{EntriesLeft};
+ghost use Rattle.cs_file_scan.specs.KeyedFile.{AreKeyed, count_of};
+ghost use Rattle.cs_file_scan.specs.Tables.{EntriesLeft};
 ghost use Rattle.cs_wire.specs.Views.{IsIndexWhere};
 ghost use Rattle.cs_group.specs.Joining.{entry_key, is_new, joined_entries, joined_entry, key_marks, left_of, merged};
 ghost use Rattle.cs_group.specs.Joining.{outcome};
 ghost use Rattle.cs_group.specs.Marks.{AreApart, AreMet};
 ghost use Rattle.cs_files.specs.Writing.{some_bytes};
 
-use cs_file_tables::{KeyedEntries, Tables};
+use cs_file_scan::{KeyedEntries, Tables};
 use cs_group::{Merged, merge_refs};
 use cs_value::NoMemory;
 use cs_wire::EntryRef;

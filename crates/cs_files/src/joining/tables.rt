@@ -3,8 +3,8 @@ ghost use Rattle.std.specs.Prelude.{◌≡◌, ◌≤◌, ◌++◌, [], List, If
 ghost use Rattle.cs_wire_entries.specs.declared.entry.Entry.{Entry as EntryData};
 ghost use Rattle.cs_wire.specs.Changeset.{GroupData, IsChangeset, IsHeader, entries_bytes, file_bytes, group_bytes};
 ghost use Rattle.cs_wire.specs.Headers.{header_of};
-ghost use Rattle.cs_file_tables.specs.Named.{AreListed};
-ghost use Rattle.cs_file_tables.specs.Tables.{EntriesLeft};
+ghost use Rattle.cs_file_scan.specs.Named.{AreListed};
+ghost use Rattle.cs_file_scan.specs.Tables.{EntriesLeft};
 ghost use Rattle.cs_group.specs.Joining.{AreJoinable, if_new, is_new, joined_entries, joined_group, key_marks};
 ghost use Rattle.cs_group.specs.Joining.{outcome, some_group, table_name, with_text};
 ghost use Rattle.cs_group.specs.Marks.{AreApart};
@@ -12,7 +12,7 @@ ghost use Rattle.cs_files.specs.Writing.{some_bytes};
 
 use crate::joining::columns::partner_of;
 use crate::joining::entries::write_joined;
-use cs_file_tables::{NamedTables, Tables};
+use cs_file_scan::{NamedTables, Tables};
 use cs_value::NoMemory;
 use cs_wire::HeaderRef;
 use std::alloc::Global;

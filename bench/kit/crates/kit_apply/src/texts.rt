@@ -1,4 +1,4 @@
-//! The texts of SQL that read and write records: those of `crates/cs_store_records/src/texts.rt`.
+//! The texts of SQL that read and write records: those of `crates/cs_store_sql/src/texts.rt`.
 
 pub(crate) const FIND: &str = "SELECT rowb FROM rec WHERE tab = ?1 AND keyb = ?2";
 

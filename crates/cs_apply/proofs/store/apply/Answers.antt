@@ -5,7 +5,7 @@ use Rattle.std.proofs.lemmas.Result.{err_from_is_err_and}
 use Rattle.sqlite.specs.Held.{state}
 use Rattle.cs_store.specs.Laws.{was_clean}
 use Rattle.cs_store.proofs.TransactLemmas.{transacts_on}
-use Rattle.cs_apply_rows.proofs.OutcomeLemmas.{told_reports}
+use Rattle.cs_apply_engine.proofs.OutcomeLemmas.{told_reports}
 use Rattle.cs_apply.proofs.RevertLemmas.{done_state, leads_clean}
 use Rattle.cs_apply.proofs.store.apply.Goals as goal
 

@@ -1,10 +1,10 @@
 -- `store::revert`: the clauses `applied`, `refused`, `reverts` and `transacts`.
 use Rattle.std.proofs.Common.{Ok, Err, refl, rules}
 use Rattle.std.proofs.lemmas.Result.{err_from_is_err_and}
-use Rattle.cs_apply_conflicts.specs.declared.conflict.Noop.TheVariants.{Report as Reported}
-use Rattle.cs_apply_rows.specs.declared.running.Direction.TheVariants.{Inverse}
-use Rattle.cs_apply_rows.specs.Running.{AlwaysAborts}
-use Rattle.cs_apply_rows.proofs.OutcomeLemmas.{told_reports}
+use Rattle.cs_apply_conflict_kinds.specs.declared.conflict.Noop.TheVariants.{Report as Reported}
+use Rattle.cs_apply_engine.specs.declared.running.Direction.TheVariants.{Inverse}
+use Rattle.cs_apply_engine.specs.Running.{AlwaysAborts}
+use Rattle.cs_apply_engine.proofs.OutcomeLemmas.{told_reports}
 use Rattle.cs_apply.proofs.RevertLemmas.{reverts_ok, reverts_err, refuses_weaker, applies_weaker}
 use Rattle.cs_apply.proofs.CrashLemmas.{revert_transacts}
 use Rattle.cs_store.proofs.TransactLemmas.{transacts_on}

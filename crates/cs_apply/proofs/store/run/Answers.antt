@@ -7,16 +7,16 @@ use Rattle.sqlite.specs.State.{HasCleanDisk}
 use Rattle.cs_store.specs.Store.{tables_in}
 use Rattle.cs_store.proofs.TransactLemmas.{unbegun_transacts, dropped_transacts, uncommitted_transacts, committed_transacts}
 use Rattle.cs_value.specs.State as tables
-use Rattle.cs_apply_conflicts.specs.declared.conflict.Noop.{Noop}
-use Rattle.cs_apply_rows.specs.declared.running.Direction.{Direction}
-use Rattle.cs_apply_rows.specs.declared.tally.Tally.{Tally}
-use Rattle.cs_apply_rows.specs.Running.{Handler, AppliesTallied}
+use Rattle.cs_apply_conflict_kinds.specs.declared.conflict.Noop.{Noop}
+use Rattle.cs_apply_engine.specs.declared.running.Direction.{Direction}
+use Rattle.cs_apply_engine.specs.declared.tally.Tally.{Tally}
+use Rattle.cs_apply_engine.specs.Running.{Handler, AppliesTallied}
 use Rattle.cs_apply.specs.Crash.{AppliesInto}
 use Rattle.cs_store.proofs.FailureLemmas.{begin_fails, commit_fails, work_fails}
 use Rattle.cs_store.specs.Failing.{BeginFails}
 use Rattle.cs_store.specs.Faults as stores
 use Rattle.cs_store.specs.Laws.{was_clean}
-use Rattle.cs_apply_rows.proofs.CauseLemmas.{caused_on, rows_caused_on}
+use Rattle.cs_apply_engine.proofs.CauseLemmas.{caused_on, rows_caused_on}
 use Rattle.cs_apply.proofs.store.run.Goals as goal
 
 -- what a tally has is what the state was made with

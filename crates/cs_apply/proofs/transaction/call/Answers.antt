@@ -10,10 +10,10 @@ use Rattle.cs_store.specs.Laws.{was_clean}
 use Rattle.cs_store.specs.Store.{tables_in}
 use Rattle.cs_store.specs.Within.{EndsCall}
 use Rattle.cs_store.proofs.WithinLemmas.{call_within, ended_within, makes_inside, mark_there, marked_fails, release_fails, shown_holds, unreleased_within}
-use Rattle.cs_apply_rows.specs.declared.report.Report.{Report}
-use Rattle.cs_apply_rows.specs.Running.{Applies, Refuses, is_answered}
-use Rattle.cs_apply_rows.specs.Steps.{IsStoreRefusal}
-use Rattle.cs_apply_rows.proofs.CauseLemmas.{caused_so, rows_caused_on}
+use Rattle.cs_apply_engine.specs.declared.report.Report.{Report}
+use Rattle.cs_apply_engine.specs.Running.{Applies, Refuses, is_answered}
+use Rattle.cs_apply_engine.specs.Steps.{IsStoreRefusal}
+use Rattle.cs_apply_engine.proofs.CauseLemmas.{caused_so, rows_caused_on}
 use Rattle.cs_apply.specs.Crash.{AppliesInto}
 use Rattle.cs_apply.proofs.TransactionLemmas.{report_into, resource_refusal, run_goes_on, run_inside}
 use Rattle.cs_apply.proofs.transaction.call.Goals as goal

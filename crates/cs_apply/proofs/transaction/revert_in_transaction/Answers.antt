@@ -1,10 +1,10 @@
 -- `transaction::revert_in_transaction`: the clauses `applied`, `refused`, `reverts` and `within`.
 use Rattle.std.proofs.Common.{rules}
 use Rattle.std.proofs.lemmas.Result.{IfErr-weaker, IfOk-weaker, MatchResult-from_both}
-use Rattle.cs_apply_conflicts.specs.declared.conflict.Noop.TheVariants.{Report as Reported}
-use Rattle.cs_apply_rows.specs.declared.running.Direction.TheVariants.{Inverse}
-use Rattle.cs_apply_rows.specs.Running.{AlwaysAborts}
-use Rattle.cs_apply_rows.specs.Steps.{IsStoreRefusal}
+use Rattle.cs_apply_conflict_kinds.specs.declared.conflict.Noop.TheVariants.{Report as Reported}
+use Rattle.cs_apply_engine.specs.declared.running.Direction.TheVariants.{Inverse}
+use Rattle.cs_apply_engine.specs.Running.{AlwaysAborts}
+use Rattle.cs_apply_engine.specs.Steps.{IsStoreRefusal}
 use Rattle.cs_apply.proofs.RevertLemmas.{reverts_ok, reverts_err, refuses_weaker, applies_weaker}
 use Rattle.cs_apply.proofs.TransactionLemmas.{within_weaker}
 use Rattle.cs_apply.proofs.transaction.revert_in_transaction.Goals as goal

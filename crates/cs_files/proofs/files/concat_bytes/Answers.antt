@@ -2,7 +2,7 @@
 use Rattle.std.proofs.Common.{◌≡◌}
 use Rattle.std.proofs.lemmas.Result.{err_from_is_err_and}
 use Rattle.cs_wire.specs.Changeset.{file_bytes}
-use Rattle.cs_file_tables.specs.Named.{IsListing}
+use Rattle.cs_file_scan.specs.Named.{IsListing}
 use Rattle.cs_group.specs.Joining.{joined}
 use Rattle.cs_files.proofs.JoiningLemmas.{join_refused, joins, read_is, second_refused}
 use Rattle.cs_files.proofs.files.concat_bytes.Goals as goal

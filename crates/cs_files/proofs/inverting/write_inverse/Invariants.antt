@@ -1,7 +1,7 @@
 -- Of the tables that are left some are undone.
 use Rattle.std.proofs.Common.{[], ◌-◌, List, length}
 use Rattle.cs_wire.specs.Changeset.{GroupData, group_bytes}
-use Rattle.cs_file_tables.specs.Tables.{EntriesLeft}
+use Rattle.cs_file_scan.specs.Tables.{EntriesLeft}
 use Rattle.cs_group.specs.Inverse.{inverse_group}
 use Rattle.cs_files.proofs.PassLemmas.{WritesTables}
 use Rattle.cs_files.proofs.inverting.write_inverse.Given as goal

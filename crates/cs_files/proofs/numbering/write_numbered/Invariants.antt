@@ -1,7 +1,7 @@
 -- Of the remaining tables some are written, with the columns of their keys numbered.
 use Rattle.std.proofs.Common.{[], ◌-◌, List, length}
 use Rattle.cs_wire.specs.Changeset.{GroupData, group_bytes}
-use Rattle.cs_file_tables.specs.Tables.{EntriesLeft}
+use Rattle.cs_file_scan.specs.Tables.{EntriesLeft}
 use Rattle.cs_group.specs.Numbering.{numbered_group}
 use Rattle.cs_files.proofs.PassLemmas.{WritesTables}
 use Rattle.cs_files.proofs.numbering.write_numbered.Given as goal

@@ -1,7 +1,7 @@
 -- Of the remaining tables those are written that are named.
 use Rattle.std.proofs.Common.{[], ◌-◌, List, length}
 use Rattle.cs_wire.specs.Changeset.{GroupData}
-use Rattle.cs_file_tables.specs.Tables.{EntriesLeft}
+use Rattle.cs_file_scan.specs.Tables.{EntriesLeft}
 use Rattle.cs_files.proofs.PassLemmas.{WritesTables}
 use Rattle.cs_files.proofs.SelectLemmas.{group_text}
 use Rattle.cs_files.proofs.selecting.write_selected.Given as goal

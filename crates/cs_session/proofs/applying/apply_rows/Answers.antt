@@ -2,7 +2,7 @@
 use Rattle.std.proofs.Common.{map}
 use Rattle.std.specs.Fn.{FnReturnsAt}
 use Rattle.std.proofs.lemmas.Result.{err_from_is_err_and}
-use Rattle.cs_apply_rows.specs.Writes.{IsFileWrite}
+use Rattle.cs_apply_engine.specs.Writes.{IsFileWrite}
 use Rattle.cs_session_notes.specs.Views.{attached_of}
 use Rattle.cs_session_notes.proofs.CauseLemmas.{caused_on, own_of_run, run_caused_on}
 use Rattle.cs_session_notes.proofs.NotesLemmas.{recorded_are}

@@ -6,7 +6,7 @@ use Rattle.sqlite.specs.Held.{state}
 use Rattle.sqlite.specs.State.{HasCleanDisk}
 use Rattle.std.specs.Prelude.{IfOk}
 use Rattle.std.specs.Fn.{FnReturnsAt}
-use Rattle.cs_apply_rows.specs.declared.report.Report.{Report}
+use Rattle.cs_apply_engine.specs.declared.report.Report.{Report}
 use Rattle.cs_apply.specs.Crash.{AppliesInto}
 use Rattle.cs_apply.proofs.TransactionLemmas.{report_into}
 use Rattle.cs_store.specs.Laws.{was_clean}

@@ -2,9 +2,9 @@
 use Rattle.std.proofs.Common.{false, List, map, rules, ap, subst}
 use Rattle.std.proofs.lemmas.Result.{err_from_is_err_and}
 use Rattle.cs_wire.specs.Changeset.{GroupData, file_bytes}
-use Rattle.cs_apply_rows.specs.declared.running.Direction.TheVariants.{Inverse}
-use Rattle.cs_apply_rows.specs.Running.{directed}
-use Rattle.cs_apply_rows.specs.Writes.{IsRunWrite}
+use Rattle.cs_apply_engine.specs.declared.running.Direction.TheVariants.{Inverse}
+use Rattle.cs_apply_engine.specs.Running.{directed}
+use Rattle.cs_apply_engine.specs.Writes.{IsRunWrite}
 use Rattle.cs_session.specs.Undoing.{IsUndoWrite}
 use Rattle.cs_session_notes.specs.Views.{attached_of}
 use Rattle.cs_session_notes.proofs.CauseLemmas.{caused_on, run_caused_on}

@@ -1,6 +1,6 @@
 -- `applying::revert_noted`: what it ensures.
 use Rattle.std.proofs.lemmas.Result.{err_from_is_err_and}
-use Rattle.cs_apply_rows.specs.Running.{AlwaysAborts}
+use Rattle.cs_apply_engine.specs.Running.{AlwaysAborts}
 use Rattle.cs_shell_executor.proofs.ApplyTurnLemmas.{works_recorded, works_unrecorded}
 use Rattle.cs_shell_executor.proofs.applying.revert_noted.Goals as goal
 

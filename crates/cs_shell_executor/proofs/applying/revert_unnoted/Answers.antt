@@ -1,7 +1,7 @@
 -- `applying::revert_unnoted`: what it ensures.
 use Rattle.std.proofs.lemmas.Result.{err_from_is_err_and}
-use Rattle.cs_apply_rows.specs.Running.{AlwaysAborts}
-use Rattle.cs_apply_rows.proofs.OutcomeLemmas.{report_counts}
+use Rattle.cs_apply_engine.specs.Running.{AlwaysAborts}
+use Rattle.cs_apply_engine.proofs.OutcomeLemmas.{report_counts}
 use Rattle.cs_shell_executor.proofs.ApplyTurnLemmas.{works_applied, works_unapplied}
 use Rattle.cs_shell_executor.proofs.applying.revert_unnoted.Goals as goal
 

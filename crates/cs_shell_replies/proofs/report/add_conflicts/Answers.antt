@@ -1,7 +1,7 @@
 -- `report::add_conflicts`: the invariant of the loop at `met`, what it ensures.
 use Rattle.std.proofs.Common.{arith}
 use Rattle.cs_value.proofs.ListLemmas.{flat_map_take_more_at, flat_map_split_at}
-use Rattle.cs_apply_rows.specs.Report.{met_of}
+use Rattle.cs_apply_engine.specs.Report.{met_of}
 use Rattle.cs_file_texts.proofs.GatherLemmas.{Gathered-more, Gathers-stopped}
 use Rattle.cs_shell_replies.specs.Report.{met_text}
 use Rattle.cs_shell_replies.proofs.report.add_conflicts.Goals as goal

@@ -1,6 +1,6 @@
 use Rattle.std.proofs.Common.{take}
 use Rattle.std.specs.List.{flat_map}
-use Rattle.cs_apply_rows.specs.Report.{met_of}
+use Rattle.cs_apply_engine.specs.Report.{met_of}
 use Rattle.cs_files.specs.Gathering.{Gathered}
 use Rattle.cs_shell_replies.specs.Report.{met_text}
 use Rattle.cs_shell_replies.proofs.report.add_conflicts.Given as goal

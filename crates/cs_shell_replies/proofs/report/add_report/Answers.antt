@@ -3,8 +3,8 @@ use Rattle.std.proofs.Common.{◌≡◌, ◌++◌, refl}
 use Rattle.std.specs.Prelude.{string_bytes}
 use Rattle.std.specs.List.{flat_map}
 use Rattle.std.proofs.lemmas.List.Folds.{flat_map-map}
-use Rattle.cs_apply_rows.specs.declared.report.Summary.{Summary}
-use Rattle.cs_apply_rows.specs.Report.{met_of}
+use Rattle.cs_apply_engine.specs.declared.report.Summary.{Summary}
+use Rattle.cs_apply_engine.specs.Report.{met_of}
 use Rattle.cs_file_texts.proofs.GatherLemmas.{Gathered-nil, Gathers-is, Gathers-stopped, Gathers-then}
 use Rattle.cs_shell_replies.specs.Report.{skip_text, met_text, ignored_text, count_text, report_of}
 use Rattle.cs_shell_replies.proofs.report.add_report.Goals as goal

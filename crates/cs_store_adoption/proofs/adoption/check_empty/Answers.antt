@@ -3,8 +3,8 @@ use Rattle.std.proofs.Common.{◌≡◌, ◌⊎◌, inl, [], refl, sym, subst}
 use Rattle.sqlite.specs.Held.{state}
 use Rattle.sqlite.specs.Effect.{Database}
 use Rattle.cs_store_tables.specs.Laws.{was_clean}
-use Rattle.cs_store_records.specs.Records.{HoldsRecords, record_rows, records_in}
-use Rattle.cs_store_bytes.specs.Valid.{AreValid}
+use Rattle.cs_store_sql.specs.Records.{HoldsRecords, record_rows, records_in}
+use Rattle.cs_store_encoding.specs.Valid.{AreValid}
 use Rattle.cs_store_adoption.proofs.AdoptionLemmas.{none_passes, scanned_holds, unnamed_held}
 use Rattle.std.proofs.Common.{◌∙◌}
 use Rattle.cs_rows.specs.Faults.{IsCaused}

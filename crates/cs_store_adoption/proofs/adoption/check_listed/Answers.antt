@@ -1,7 +1,7 @@
 -- `adoption::check_listed`: what `check_tables` asks for, the clause `refused`.
 use Rattle.std.proofs.Common.{inl}
 use Rattle.sqlite.specs.Held.{state}
-use Rattle.cs_store_records.specs.Records.{records_in}
+use Rattle.cs_store_sql.specs.Records.{records_in}
 use Rattle.cs_store_adoption.proofs.AdoptionLemmas.{none_held}
 use Rattle.cs_store_adoption.proofs.adoption.check_listed.Goals as goal
 

@@ -4,10 +4,10 @@ use Rattle.std.proofs.lemmas.Result.{err_from_is_err_and}
 use Rattle.sqlite.specs.Held.{state}
 use Rattle.sqlite.specs.Effect.{Database}
 use Rattle.cs_store_tables.specs.Laws.{was_clean}
-use Rattle.cs_store_records.specs.Records.{HoldsRecords, records_in}
-use Rattle.cs_store_bytes.specs.Valid.{AreValid}
-use Rattle.cs_store_bytes.specs.Versions.{bytes_of}
-use Rattle.cs_store_bytes.proofs.CheckLemmas.{valid_tables}
+use Rattle.cs_store_sql.specs.Records.{HoldsRecords, records_in}
+use Rattle.cs_store_encoding.specs.Valid.{AreValid}
+use Rattle.cs_store_encoding.specs.Versions.{bytes_of}
+use Rattle.cs_store_encoding.proofs.CheckLemmas.{valid_tables}
 use Rattle.cs_store_adoption.proofs.AdoptionLemmas.{none_held, scanned_holds, scanned_valid, valid_passes}
 use Rattle.std.proofs.Common.{◌∙◌}
 use Rattle.cs_rows.specs.Faults.{IsCaused}

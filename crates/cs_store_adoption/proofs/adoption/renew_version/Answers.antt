@@ -2,7 +2,7 @@
 use Rattle.std.proofs.Common.{ap, ◌∙◌, Some}
 use Rattle.sqlite.specs.Held.{state}
 use Rattle.sqlite.proofs.StateLemmas.{unchanged}
-use Rattle.cs_store_bytes.specs.Versions.{bytes_of}
+use Rattle.cs_store_encoding.specs.Versions.{bytes_of}
 use Rattle.cs_store_adoption.proofs.AdoptionLemmas.{valid_holds}
 use Rattle.cs_store_adoption.proofs.adoption.renew_version.Goals as goal
 

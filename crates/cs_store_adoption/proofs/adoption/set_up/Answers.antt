@@ -2,8 +2,8 @@
 use Rattle.cs_rows.specs.declared.fault.Cause.TheVariants as cause
 use Rattle.cs_rows.specs.Faults.{refused_for}
 use Rattle.std.proofs.Common.{inr, subst}
-use Rattle.cs_store_records.specs.Layout.{IsDeclaration}
-use Rattle.cs_store_records.specs.Records.{IsUnsupported}
+use Rattle.cs_store_sql.specs.Layout.{IsDeclaration}
+use Rattle.cs_store_sql.specs.Records.{IsUnsupported}
 use Rattle.cs_store_tables.specs.Failing.{unsupported}
 use Rattle.cs_store_adoption.proofs.adoption.set_up.Goals as goal
 

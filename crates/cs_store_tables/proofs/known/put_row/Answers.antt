@@ -8,7 +8,7 @@ use Rattle.cs_rows.specs.Faults.{refused_for}
 use Rattle.cs_value.specs.State.{TableData, rows_at}
 use Rattle.cs_store_tables.specs.Store.{tables_in}
 use Rattle.cs_store_tables.specs.Laws.{was_clean}
-use Rattle.cs_store_records.proofs.ContentLemmas.{in_transaction}
+use Rattle.cs_store_sql.proofs.ContentLemmas.{in_transaction}
 use Rattle.cs_store_tables.proofs.WriteLemmas.{shows_state}
 use Rattle.cs_store_tables.proofs.KnownLemmas.{known_free, knows_written}
 use Rattle.cs_store_tables.proofs.FailureLemmas.{put_leads, so_caused}

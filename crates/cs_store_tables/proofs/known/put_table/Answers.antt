@@ -2,7 +2,7 @@
 use Rattle.std.proofs.Common.{inl, inr, refl}
 use Rattle.cs_rows.specs.declared.fault.Cause.TheVariants as cause
 use Rattle.cs_rows.specs.Faults.{refused_for}
-use Rattle.cs_store_records.proofs.ContentLemmas.{in_autocommit, in_transaction}
+use Rattle.cs_store_sql.proofs.ContentLemmas.{in_autocommit, in_transaction}
 use Rattle.cs_store_tables.specs.Laws.{keeps_itself}
 use Rattle.cs_store_tables.proofs.FailureLemmas.{caused_so, declare_fails}
 use Rattle.sqlite.specs.Held.{state}

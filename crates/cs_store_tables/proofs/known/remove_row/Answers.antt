@@ -7,7 +7,7 @@ use Rattle.cs_rows.specs.Faults.{refused_for}
 use Rattle.cs_value.specs.State.{rows_at}
 use Rattle.cs_store_tables.specs.Store.{tables_in}
 use Rattle.cs_store_tables.specs.Laws.{was_clean}
-use Rattle.cs_store_records.proofs.ContentLemmas.{in_transaction}
+use Rattle.cs_store_sql.proofs.ContentLemmas.{in_transaction}
 use Rattle.cs_store_tables.proofs.KnownLemmas.{knows_written}
 use Rattle.cs_store_tables.proofs.FailureLemmas.{remove_leads, so_caused}
 use Rattle.cs_store_tables.proofs.known.remove_row.Goals as goal

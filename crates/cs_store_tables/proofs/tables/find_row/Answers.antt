@@ -2,9 +2,9 @@
 use Rattle.std.proofs.Common.{inl, ap, ◌∙◌}
 use Rattle.sqlite.specs.Held.{state}
 use Rattle.cs_value.specs.State.{row_at}
-use Rattle.cs_store_records.specs.Records.{records_in}
+use Rattle.cs_store_sql.specs.Records.{records_in}
 use Rattle.cs_store_tables.specs.Store.{tables_in}
-use Rattle.cs_store_bytes.proofs.StoredLemmas.{row_stored}
+use Rattle.cs_store_encoding.proofs.StoredLemmas.{row_stored}
 use Rattle.cs_store_tables.proofs.StoreLemmas.{rests_keeps}
 use Rattle.cs_store_tables.proofs.ReadLemmas.{shows_read, row_is, declared_named, read_fits}
 use Rattle.cs_store_tables.proofs.FailureLemmas.{on_ok, read_leads}

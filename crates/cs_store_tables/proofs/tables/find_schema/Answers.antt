@@ -3,7 +3,7 @@ use Rattle.std.proofs.Common.{[], sym, ap, ◌∙◌}
 use Rattle.sqlite.specs.Held.{state}
 use Rattle.sqlite.specs.State.{HasCleanDisk}
 use Rattle.cs_value.specs.State.{schema_at}
-use Rattle.cs_store_records.specs.Records.{records_in}
+use Rattle.cs_store_sql.specs.Records.{records_in}
 use Rattle.cs_store_tables.specs.Store.{IsSound, Recovers, tables_in}
 use Rattle.cs_store_tables.proofs.ReadLemmas.{shows_read, recovers_ok, recovers_err, unnamed, no_elements, some_elements, schema_is, schema_stored}
 use Rattle.cs_store_tables.proofs.StoreLemmas.{rests_keeps}

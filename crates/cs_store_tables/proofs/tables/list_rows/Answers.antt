@@ -1,7 +1,7 @@
 -- `tables::list_rows`: the clauses `kept`, `listed` and `named`.
 use Rattle.std.proofs.Common.{inl, map}
 use Rattle.sqlite.specs.Held.{state}
-use Rattle.cs_store_records.specs.Records.{records_in}
+use Rattle.cs_store_sql.specs.Records.{records_in}
 use Rattle.cs_store_tables.specs.Store.{tables_in}
 use Rattle.cs_store_tables.proofs.StoreLemmas.{rests_keeps}
 use Rattle.cs_store_tables.proofs.StoredLists.{refused_named, rows_recovered, rows_are_stored}

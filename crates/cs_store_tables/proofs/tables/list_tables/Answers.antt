@@ -2,7 +2,7 @@
 use Rattle.sqlite.specs.Held.{state}
 use Rattle.sqlite.specs.State.{HasCleanDisk}
 use Rattle.std.specs.FinMap as map
-use Rattle.cs_store_records.specs.Records.{records_in}
+use Rattle.cs_store_sql.specs.Records.{records_in}
 use Rattle.cs_store_tables.specs.Store.{IsSound, AreNamed, tables_in}
 use Rattle.cs_store_tables.proofs.ReadLemmas.{shows_read}
 use Rattle.cs_store_tables.proofs.StoreLemmas.{rests_keeps}

@@ -1,7 +1,7 @@
 -- `tables::put_row`: the clauses `put`, `caused`, `leads` and `kept`.
 use Rattle.std.proofs.Common.{◌≡◌, Some, refl, rules}
 use Rattle.cs_store_tables.proofs.FailureLemmas.{caused_write, apt, declared, write_leads}
-use Rattle.cs_store_records.specs.Failing.{puts}
+use Rattle.cs_store_sql.specs.Failing.{puts}
 use Rattle.sqlite.specs.Held.{state}
 use Rattle.cs_value.specs.Spelling.{row_bytes}
 use Rattle.cs_store_tables.proofs.ReadLemmas.{no_record}

@@ -1,8 +1,8 @@
 -- `tables::put_table`: the clauses `declared`, `caused`, `leads` and `kept`.
 use Rattle.std.proofs.Common.{◌≡◌, Some, [], false, refl, rules}
-use Rattle.cs_store_records.specs.Failing.{puts}
+use Rattle.cs_store_sql.specs.Failing.{puts}
 use Rattle.sqlite.specs.Held.{state}
-use Rattle.cs_store_bytes.specs.Declaration.{declaration_bytes}
+use Rattle.cs_store_encoding.specs.Declaration.{declaration_bytes}
 use Rattle.cs_store_tables.proofs.WriteLemmas.{table_put, no_table, on_ok_both, on_ok_then, shows_state, mapped, written_is, written_keeps}
 use Rattle.cs_store_tables.proofs.FailureLemmas.{caused_write, declared, write_leads}
 use Rattle.cs_store_tables.proofs.tables.put_table.Goals as goal

@@ -2,7 +2,7 @@
 use Rattle.std.proofs.Common.{None, refl}
 use Rattle.sqlite.specs.Held.{state}
 use Rattle.cs_store_tables.proofs.WriteLemmas.{row_removed, mapped, on_ok_both, shows_state, written_is, written_keeps}
-use Rattle.cs_store_records.specs.Failing.{removes}
+use Rattle.cs_store_sql.specs.Failing.{removes}
 use Rattle.cs_store_tables.specs.Laws.{was_clean}
 use Rattle.cs_store_tables.proofs.FailureLemmas.{caused_write, declared, write_leads}
 use Rattle.cs_store_tables.proofs.tables.remove_row.Goals as goal

@@ -2,8 +2,8 @@
 use Rattle.std.proofs.Common.{◌≡◌, Some, None, ap, sym, ◌∙◌}
 use Rattle.std.specs.Option.{option_map}
 use Rattle.cs_value.specs.State.{SchemaData}
-use Rattle.cs_store_bytes.specs.Declaration.{declaration_bytes}
-use Rattle.cs_store_bytes.proofs.DeclarationLemmas.{declarations_apart}
+use Rattle.cs_store_encoding.specs.Declaration.{declaration_bytes}
+use Rattle.cs_store_encoding.proofs.DeclarationLemmas.{declarations_apart}
 use Rattle.cs_store_tables.proofs.tables.schema_in.Goals as goal
 
 pub returns-in_ok-read_declaration-in-Some-clause-found : goal.returns-in_ok-read_declaration-in-Some-clause-found

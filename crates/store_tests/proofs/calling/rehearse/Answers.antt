@@ -8,11 +8,11 @@ use Rattle.cs_value.specs.State.{State, WrittenData, rows_at}
 use Rattle.cs_rows.specs.declared.edit.Edit.{Edit}
 use Rattle.cs_store.specs.Editing.{written_of}
 use Rattle.cs_store.specs.Store.{tables_in}
-use Rattle.cs_apply_conflicts.specs.declared.conflict.Noop.{Noop}
-use Rattle.cs_apply_rows.specs.declared.report.Report.{Report}
-use Rattle.cs_apply_rows.specs.Running.{Handler}
+use Rattle.cs_apply_conflict_kinds.specs.declared.conflict.Noop.{Noop}
+use Rattle.cs_apply_engine.specs.declared.report.Report.{Report}
+use Rattle.cs_apply_engine.specs.Running.{Handler}
 use Rattle.cs_session_notes.specs.FirstImages.{AttachedTable, Notes, HasAttached, recorded, rewound_state}
-use Rattle.cs_apply_rows.specs.declared.running.Direction.TheVariants.{Forward}
+use Rattle.cs_apply_engine.specs.declared.running.Direction.TheVariants.{Forward}
 use Rattle.cs_session_notes.specs.Attaching.{Attaches}
 use Rattle.cs_session.specs.Recording.{Records, RecordsApply}
 use Rattle.cs_session.specs.Undoing.{Undoes}

@@ -1,7 +1,7 @@
 use Rattle.std.proofs.Common.{◌≡◌, ◌≤◌, ◌-◌, List, length}
 use Rattle.cs_wire_entries.specs.declared.entry.Entry.{Entry}
 use Rattle.cs_wire.specs.Changeset.{GroupData}
-use Rattle.cs_file_tables.specs.Tables.{EntriesLeft}
+use Rattle.cs_file_scan.specs.Tables.{EntriesLeft}
 use Rattle.cs_file_texts.specs.Forms.{entry_part}
 use Rattle.cs_file_texts.proofs.TablesLemmas.{GathersEntries}
 use Rattle.cs_file_texts.proofs.texts.tables.add_entries.Given as goal

@@ -1,6 +1,6 @@
 use Rattle.std.proofs.Common.{[], ◌-◌, List, length}
 use Rattle.cs_wire.specs.Changeset.{GroupData}
-use Rattle.cs_file_tables.specs.Tables.{EntriesLeft}
+use Rattle.cs_file_scan.specs.Tables.{EntriesLeft}
 use Rattle.cs_file_texts.specs.Forms.{group_part}
 use Rattle.cs_file_texts.proofs.TablesLemmas.{GathersGroups}
 use Rattle.cs_file_texts.proofs.texts.tables.add_tables.Given as goal

@@ -4,8 +4,8 @@ use Rattle.std.proofs.lemmas.List.{take_all}
 use Rattle.std.proofs.lemmas.List.Elements.{All-push}
 use Rattle.cs_group.specs.Joining.{AgreesWith}
 use Rattle.cs_value.proofs.ListLemmas.{take_more_at}
-use Rattle.cs_file_tables.proofs.NamedLemmas.{table_at, tables_length}
-use Rattle.cs_file_tables.specs.Named.{no_table}
+use Rattle.cs_file_scan.proofs.NamedLemmas.{table_at, tables_length}
+use Rattle.cs_file_scan.specs.Named.{no_table}
 use Rattle.cs_files.proofs.JoiningLemmas.{group_at, group_within, group_at_is, table_of_group}
 use Rattle.cs_files.proofs.joining.columns.first_clash.Goals as goal
 

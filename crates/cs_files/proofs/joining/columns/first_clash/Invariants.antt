@@ -1,7 +1,7 @@
 -- The tables so far agree.
 use Rattle.std.proofs.Common.{List, take, All}
 use Rattle.cs_wire.specs.Changeset.{GroupData, IsChangeset}
-use Rattle.cs_file_tables.specs.Named.{AreListed}
+use Rattle.cs_file_scan.specs.Named.{AreListed}
 use Rattle.cs_group.specs.Joining.{AgreesWith}
 use Rattle.cs_files.proofs.joining.columns.first_clash.Given as goal
 

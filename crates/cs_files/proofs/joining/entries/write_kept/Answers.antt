@@ -7,8 +7,8 @@ use Rattle.cs_wire.specs.Entry.{entry_bytes, key_of}
 use Rattle.cs_wire.specs.Views.{IsIndexWhere}
 use Rattle.cs_group.specs.Joining.{joined_entry, outcome}
 use Rattle.cs_files.specs.Writing.{some_bytes}
-use Rattle.cs_file_tables.proofs.KeyedLemmas.{as_many}
-use Rattle.cs_file_tables.proofs.TablesLemmas.{PassedEntries-all}
+use Rattle.cs_file_scan.proofs.KeyedLemmas.{as_many}
+use Rattle.cs_file_scan.proofs.TablesLemmas.{PassedEntries-all}
 use Rattle.cs_group.specs.Marks.{AreMet}
 use Rattle.cs_group.proofs.MarkLemmas.{AreMet-none, AreMet-other, AreMet-marked, apart_of, keys_of, place_of}
 use Rattle.cs_files.proofs.JoiningLemmas.{some_flat}

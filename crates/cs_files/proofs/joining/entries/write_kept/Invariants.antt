@@ -3,8 +3,8 @@ use Rattle.std.proofs.Common.{◌≡◌, ◌-◌, List, length}
 use Rattle.cs_wire_entries.specs.declared.entry.Entry.{Entry}
 use Rattle.cs_wire.specs.Entry.{entry_bytes, key_of}
 use Rattle.cs_wire.specs.Changeset.{GroupData}
-use Rattle.cs_file_tables.specs.KeyedFile.{AreKeyed, count_of}
-use Rattle.cs_file_tables.specs.Tables.{EntriesLeft}
+use Rattle.cs_file_scan.specs.KeyedFile.{AreKeyed, count_of}
+use Rattle.cs_file_scan.specs.Tables.{EntriesLeft}
 use Rattle.cs_group.specs.Joining.{joined_entry, outcome}
 use Rattle.cs_group.specs.Marks.{AreApart, AreMet}
 use Rattle.cs_files.specs.Writing.{some_bytes}

@@ -3,7 +3,7 @@ use Rattle.std.proofs.Common.{◌≡◌, [], false, cond, get_or, refl, ap, ◌�
 use Rattle.std.proofs.lemmas.List.{get_or_default}
 use Rattle.cs_wire_entries.specs.declared.entry.Entry.{Entry}
 use Rattle.cs_wire.specs.Entry.{entry_bytes, key_of}
-use Rattle.cs_file_tables.proofs.KeyedLemmas.{as_many}
+use Rattle.cs_file_scan.proofs.KeyedLemmas.{as_many}
 use Rattle.cs_group.specs.Joining.{if_new}
 use Rattle.cs_files.specs.Writing.{some_bytes}
 use Rattle.cs_files.proofs.JoiningLemmas.{new_flat, no_entry, unmet_bytes}

@@ -4,7 +4,7 @@ use Rattle.std.specs.List.{flat_map}
 use Rattle.cs_wire_entries.specs.declared.entry.Entry.{Entry}
 use Rattle.cs_wire.specs.Changeset.{GroupData}
 use Rattle.cs_wire.specs.Entry.{entry_bytes, key_of}
-use Rattle.cs_file_tables.specs.KeyedFile.{AreKeyed}
+use Rattle.cs_file_scan.specs.KeyedFile.{AreKeyed}
 use Rattle.cs_group.specs.Joining.{if_new}
 use Rattle.cs_group.specs.Marks.{AreMet}
 use Rattle.cs_files.specs.Writing.{some_bytes}

@@ -3,7 +3,7 @@ use Rattle.std.proofs.Common.{◌≡◌, ◌≤◌, ◌-◌, List, length}
 use Rattle.cs_wire_entries.specs.declared.entry.Entry.{Entry}
 use Rattle.cs_wire.specs.Entry.{entry_bytes}
 use Rattle.cs_wire.specs.Changeset.{GroupData}
-use Rattle.cs_file_tables.specs.Tables.{EntriesLeft}
+use Rattle.cs_file_scan.specs.Tables.{EntriesLeft}
 use Rattle.cs_files.proofs.PassLemmas.{WritesEntries}
 use Rattle.cs_files.proofs.joining.tables.write_entries.Given as goal
 

@@ -3,7 +3,7 @@ use Rattle.std.proofs.Common.{◌++◌, [], suc, drop, ap, arith}
 use Rattle.cs_wire.specs.Changeset.{GroupData, group_bytes}
 use Rattle.cs_group.specs.Joining.{joined_group, outcome, table_name}
 use Rattle.cs_files.specs.Writing.{some_bytes}
-use Rattle.cs_file_tables.proofs.NamedLemmas.{tables_length}
+use Rattle.cs_file_scan.proofs.NamedLemmas.{tables_length}
 use Rattle.cs_files.proofs.JoiningLemmas.{some_flat, group_at, group_within, group_at_is, group_under, group_asked, table_of_group}
 use Rattle.cs_files.proofs.PassLemmas.{written_next, written_last}
 use Rattle.cs_files.proofs.joining.tables.write_kept_tables.Goals as goal

@@ -2,7 +2,7 @@
 use Rattle.std.proofs.Common.{◌≡◌, ◌++◌, List, take}
 use Rattle.std.specs.List.{flat_map}
 use Rattle.cs_wire.specs.Changeset.{GroupData, IsChangeset, group_bytes}
-use Rattle.cs_file_tables.specs.Named.{AreListed}
+use Rattle.cs_file_scan.specs.Named.{AreListed}
 use Rattle.cs_group.specs.Joining.{AreJoinable, joined_group, outcome, table_name}
 use Rattle.cs_files.specs.Writing.{some_bytes}
 use Rattle.cs_files.proofs.joining.tables.write_kept_tables.Given as goal

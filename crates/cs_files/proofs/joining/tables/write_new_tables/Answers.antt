@@ -3,7 +3,7 @@ use Rattle.std.proofs.Common.{◌++◌, [], suc, drop, ap, arith}
 use Rattle.cs_wire.specs.Changeset.{GroupData, group_bytes}
 use Rattle.cs_group.specs.Joining.{if_new, table_name}
 use Rattle.cs_files.specs.Writing.{some_bytes}
-use Rattle.cs_file_tables.proofs.NamedLemmas.{tables_length}
+use Rattle.cs_file_scan.proofs.NamedLemmas.{tables_length}
 use Rattle.cs_files.proofs.JoiningLemmas.{new_flat, group_at, group_within, group_at_is, group_under, table_of_group}
 use Rattle.cs_files.proofs.PassLemmas.{written_next, written_last}
 use Rattle.cs_files.proofs.joining.tables.write_new_tables.Goals as goal

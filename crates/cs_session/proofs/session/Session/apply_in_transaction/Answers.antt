@@ -6,8 +6,8 @@ use Rattle.sqlite.specs.Held.{state}
 use Rattle.cs_store.specs.Laws.{was_clean}
 use Rattle.cs_store.specs.Store.{tables_in}
 use Rattle.cs_apply.proofs.TransactionLemmas.{clean_leads}
-use Rattle.cs_apply_rows.specs.declared.report.Report.{Report}
-use Rattle.cs_apply_rows.specs.declared.running.Direction.TheVariants.{Forward}
+use Rattle.cs_apply_engine.specs.declared.report.Report.{Report}
+use Rattle.cs_apply_engine.specs.declared.running.Direction.TheVariants.{Forward}
 use Rattle.cs_session_notes.specs.FirstImages.{Notes}
 use Rattle.cs_session_notes.specs.Views.{attached_of}
 use Rattle.cs_session.specs.Recording.{RecordsApply}

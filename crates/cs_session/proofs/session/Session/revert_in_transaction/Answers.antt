@@ -3,10 +3,10 @@ use Rattle.std.proofs.Common.{map, rules}
 use Rattle.std.proofs.lemmas.Result.{IfErr-weaker, IfOk-weaker}
 use Rattle.sqlite.specs.Held.{state}
 use Rattle.cs_store.specs.Store.{tables_in}
-use Rattle.cs_apply_conflicts.specs.declared.conflict.Noop.TheVariants.{Report as Reported}
-use Rattle.cs_apply_rows.specs.declared.report.Report.{Report}
-use Rattle.cs_apply_rows.specs.declared.running.Direction.TheVariants.{Inverse}
-use Rattle.cs_apply_rows.specs.Running.{AlwaysAborts}
+use Rattle.cs_apply_conflict_kinds.specs.declared.conflict.Noop.TheVariants.{Report as Reported}
+use Rattle.cs_apply_engine.specs.declared.report.Report.{Report}
+use Rattle.cs_apply_engine.specs.declared.running.Direction.TheVariants.{Inverse}
+use Rattle.cs_apply_engine.specs.Running.{AlwaysAborts}
 use Rattle.cs_apply.proofs.TransactionLemmas.{within_weaker}
 use Rattle.cs_session_notes.specs.Changes.{IsRowsRefusal}
 use Rattle.cs_session_notes.specs.FirstImages.{Notes}

@@ -4,7 +4,7 @@ use Rattle.std.specs.Prelude.{IfSome}
 use Rattle.sqlite.specs.Effect.{Database}
 use Rattle.sqlite.specs.Held.{state}
 use Rattle.sqlite.specs.State.{HasCleanDisk}
-use Rattle.cs_store_records.specs.Marks.{HasMark}
+use Rattle.cs_store_sql.specs.Marks.{HasMark}
 use Rattle.cs_store_tables.specs.Laws.{was_clean}
 use Rattle.cs_store_tables.specs.Store.{IsKnown, tables_in}
 use Rattle.cs_store_tables.proofs.StoreLemmas.{back_store, dropped_sound}

@@ -1,6 +1,0 @@
--- `laws::idle_law`: what it ensures.
-use Rattle.cs_apply_conflicts.proofs.IdleLemmas.{idle_cases}
-use Rattle.cs_apply_conflicts.proofs.laws.idle_law.Goals as goal
-
-pub returns : goal.returns
-returns c = idle_cases

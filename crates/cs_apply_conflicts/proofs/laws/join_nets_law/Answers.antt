@@ -1,6 +1,0 @@
--- `laws::join_nets_law`: what it ensures.
-use Rattle.cs_apply_conflicts.proofs.JoinNetLemmas.{join_nets}
-use Rattle.cs_apply_conflicts.proofs.laws.join_nets_law.Goals as goal
-
-pub returns : goal.returns
-returns c = join_nets

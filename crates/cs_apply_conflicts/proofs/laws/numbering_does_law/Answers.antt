@@ -1,6 +1,0 @@
--- `laws::numbering_does_law`: what it ensures.
-use Rattle.cs_apply_conflicts.proofs.NumberingApplyLemmas.{does_alike}
-use Rattle.cs_apply_conflicts.proofs.laws.numbering_does_law.Goals as goal
-
-pub returns : goal.returns
-returns c = does_alike

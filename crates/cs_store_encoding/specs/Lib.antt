@@ -1,0 +1,10 @@
+pub mod Declaration
+pub mod Stored
+pub mod Versions
+pub mod Valid
+pub use Rattle.cs_store_sql.specs.Records
+pub use Rattle.cs_rows.specs.Faults
+pub use Rattle.cs_rows.specs.Rows
+pub use Rattle.cs_value.specs.Value
+pub use Rattle.cs_value.specs.Table
+pub use Rattle.cs_value.specs.State

@@ -1,9 +1,0 @@
--- `layout::without_table`: the view that was found is there.
-use Rattle.std.proofs.Common.{sym}
-use Rattle.sqlite_schema.specs.Names.{same_name}
-use Rattle.cs_store_records.specs.Records.{table_name}
-use Rattle.cs_store_records.proofs.PlaceLemmas.{something_there}
-use Rattle.cs_store_records.proofs.layout.without_table.Goals as goal
-
-pub unreachable-requires : goal.unreachable-requires
-unreachable-requires c = something_there (λ v. same_name v.name table_name) c.args.schema.now.views c.in-Some.at (sym c.in-Some.ensures) (sym c.in-None.ensures.value)

@@ -1,0 +1,168 @@
+-- The texts of SQL that read and write records, and what they are on a table of records.
+use Rattle.std.specs.Prelude.{◌≡◌, ◌≤◌, ℕ, pos, negsuc, Bool, true, false, List, [], ◌∷◌, length, map, codes, Some, None, Ok}
+use Rattle.sqlite_value.specs.declared.value.Value.TheVariants as value
+use Rattle.sqlite_value.specs.declared.keys.Collation.TheVariants.{Binary}
+use Rattle.sqlite_value.specs.declared.keys.Key.{Key}
+use Rattle.sqlite_value.specs.Keys.{ascending}
+use Rattle.sqlite_sql.specs.declared.ops.BinaryOp.TheVariants.{Compare}
+use Rattle.sqlite_sql.specs.declared.ops.CompareOp.TheVariants.{Eq}
+use Rattle.sqlite_sql.specs.Term.{Term, lit, col, op2}
+use Rattle.sqlite_sql.specs.Query.{Query, inner, end}
+use Rattle.sqlite_schema.specs.declared.schema.Schema.{Schema}
+use Rattle.sqlite_schema.specs.declared.program.Program.{Program}
+use Rattle.sqlite_schema.specs.declared.command.Command.{Command}
+use Rattle.sqlite_schema.specs.declared.command.Command.TheVariants.{Select, Insert, InsertOr, Delete, CreateTable}
+use Rattle.sqlite_schema.specs.declared.command.Conflict.TheVariants.{Abort}
+use Rattle.sqlite_schema.specs.declared.command.Source.{Source}
+use Rattle.sqlite_schema.specs.declared.command.Source.TheVariants.{Values}
+use Rattle.sqlite_schema.specs.declared.command.Upsert.{Upsert}
+use Rattle.sqlite_resolve.specs.declared.compiled.Compiled.{Compiled}
+use Rattle.sqlite_resolve.specs.Compile.{compiled}
+use Rattle.cs_store_sql.specs.declared.expected.Expected.{Expected}
+use Rattle.cs_store_sql.specs.declared.expected.Expected.TheVariants as expected
+use Rattle.cs_store_sql.specs.declared.expected.Shape.{Shape}
+
+-- ---- the texts
+
+-- the value of a record
+abbrev pub find_text : List ℕ
+find_text = codes "SELECT rowb FROM rec WHERE tab = ?1 AND keyb = ?2"
+
+-- the records under a name
+abbrev pub list_text : List ℕ
+list_text = codes "SELECT keyb, rowb FROM rec WHERE tab = ?1 ORDER BY keyb"
+
+-- the number of each row and its record, by these numbers
+abbrev pub scan_text : List ℕ
+scan_text = codes "SELECT rowid, tab, keyb, rowb FROM rec ORDER BY rowid"
+
+-- what puts a record: a new one, which is refused where one is there, or one in place of that which is there
+abbrev pub put_text : Bool → List ℕ
+put_text true = codes "INSERT INTO rec VALUES(?1, ?2, ?3)"
+put_text false = codes "INSERT INTO rec VALUES(?1, ?2, ?3) ON CONFLICT(tab, keyb) DO UPDATE SET rowb = ?3"
+
+-- what removes a record
+abbrev pub remove_text : List ℕ
+remove_text = codes "DELETE FROM rec WHERE tab = ?1 AND keyb = ?2"
+
+-- what makes the table
+abbrev pub create_text : List ℕ
+create_text = codes "CREATE TABLE IF NOT EXISTS rec(tab TEXT NOT NULL, keyb BLOB NOT NULL, rowb BLOB NOT NULL, PRIMARY KEY(tab, keyb)) STRICT"
+
+-- ---- queries on one table
+
+-- rising, by bytes
+abbrev pub up : Key
+up = ascending Binary
+
+-- rows of the table with this tree that pass, shown and in an order
+abbrev pub plain_query : ℕ → List Term → List Term → List (Term × Key) → Query
+plain_query tree filter project order = record {
+  from = inner tree end;
+  filter = filter;
+  group = None;
+  project = project;
+  distinct = false;
+  collations = [];
+  order = order;
+  limit = lit (value.Int (negsuc 0));
+  offset = lit (value.Int (pos 0));
+}
+
+-- SQL's =, under the collation BINARY
+abbrev pub equals : Term → Term → Term
+equals a b = op2 (Compare Eq Binary) a b
+
+-- the terms that are compared with those of a compiled statement: a column of the row is in slot 1, a parameter in slot
+-- 0
+abbrev pub expected_term : Expected → Term
+expected_term expected.Null = lit value.Null
+expected_term (expected.Column slot at) = col slot at
+expected_term (expected.Equal at param) = equals (col 1 at) (col 0 param)
+
+-- by a column of the row
+abbrev pub by_column : ℕ → Term × Key
+by_column at = (col 1 at, up)
+
+abbrev pub expected_query : ℕ → Shape → Query
+expected_query tree shape = plain_query tree (map expected_term shape.filter.now) (map expected_term shape.project.now) (map by_column shape.order.now)
+
+-- ---- what the texts are
+
+-- the name and the key are the first two parameters
+abbrev pub at_key : List Term
+at_key = equals (col 1 1) (col 0 0) ∷ equals (col 1 2) (col 0 1) ∷ []
+
+abbrev pub find_query : ℕ → Query
+find_query tree = plain_query tree at_key (col 1 3 ∷ []) []
+
+abbrev pub list_query : ℕ → Query
+list_query tree = plain_query tree (equals (col 1 1) (col 0 0) ∷ []) (col 1 2 ∷ col 1 3 ∷ []) ((col 1 2, up) ∷ [])
+
+abbrev pub scan_query : ℕ → Query
+scan_query tree = plain_query tree [] (col 1 0 ∷ col 1 1 ∷ col 1 2 ∷ col 1 3 ∷ []) ((col 1 0, up) ∷ [])
+
+-- a program that is one query
+abbrev pub alone : Query → Program
+alone q = record { lets = []; body = q }
+
+-- the row of a record, whose number is chosen
+abbrev pub source_terms : List Term
+source_terms = lit value.Null ∷ col 0 0 ∷ col 0 1 ∷ col 0 2 ∷ []
+
+abbrev pub source : Source
+source = Values source_terms 4
+
+-- of the row with the number that is the fourth parameter, that number, and the row with the new value
+abbrev pub update_query : ℕ → Query
+update_query tree = plain_query tree (equals (col 1 0) (col 0 3) ∷ []) (col 1 0 ∷ col 1 0 ∷ col 1 1 ∷ col 1 2 ∷ col 0 2 ∷ []) []
+
+-- on a row with the same name and key, the update
+abbrev pub clause : ℕ → Upsert
+clause tree = record { target = Some (1 ∷ 2 ∷ []); update = Some (alone (update_query tree)) }
+
+-- the table has this index in the schema, and this tree
+abbrev pub put_command : ℕ → ℕ → Bool → Command
+put_command index tree true = Insert index source
+put_command index tree false = InsertOr index Abort source (clause tree ∷ [])
+
+-- the numbers of the rows that are removed
+abbrev pub key_query : ℕ → Query
+key_query tree = plain_query tree at_key (col 1 0 ∷ []) []
+
+abbrev pub remove_command : ℕ → ℕ → Command
+remove_command index tree = Delete index (alone (key_query tree))
+
+-- ---- under a schema
+
+-- The whole text is this statement. It has `count` parameters and no RETURNING, and does not read the time.
+pub record IsPlainStatement (schema : Schema) (sql : List ℕ) (count : ℕ) (it : Compiled) : Type 0 where
+  pub is : compiled schema sql ≡ Ok it
+  pub returns_nothing : it.returning ≡ None
+  pub reads_no_time : it.formats ≡ []
+  pub whole : length sql ≤ it.tail
+  pub given : count ≡ length it.names
+
+-- and its command is such a one
+abbrev pub IsStatement : Schema → List ℕ → ℕ → (Command → Type 0) → Type 0
+IsStatement schema sql count Is = (it : Compiled) × IsPlainStatement schema sql count it × Is it.command
+
+abbrev pub IsCommand : Schema → List ℕ → ℕ → Command → Type 0
+IsCommand schema sql count command = IsStatement schema sql count (λ its. its ≡ command)
+
+-- the command is this query, whatever the names of its columns
+abbrev pub IsSelectOf : Command → Program → Type 0
+IsSelectOf command program = (names : List (List ℕ)) × (command ≡ Select program names)
+
+abbrev pub IsSelect : Schema → List ℕ → ℕ → Query → Type 0
+IsSelect schema sql count q = IsStatement schema sql count (λ its. IsSelectOf its (alone q))
+
+-- the statement makes a table, and is the whole of the text that makes the table of records
+pub record IsCreation (it : Compiled) : Type 0 where
+  pub command : it.command ≡ CreateTable
+  pub start : it.start ≡ 0
+  pub end : it.end ≡ length create_text
+
+-- the text that makes the table does so, as the whole of its text
+abbrev pub Creates : Schema → Type 0
+Creates schema = (it : Compiled) × IsPlainStatement schema create_text 0 it × IsCreation it

@@ -1,0 +1,235 @@
+//! The table of records, one statement at a time: a record has the name of a table, a key and a
+//! value. A call that is refused leaves the database as it was, or takes it back to its last commit.
+ghost use Rattle.std.specs.Prelude.{◌≡◌, [], Some, None, option_map, map, IsTrue, IfOk, IfErr, OnOk, OnErr};
+ghost use Rattle.sqlite.specs.State.{FailsToQuery, HasCleanDisk, IsUnchanged, KeepsCommit, Shown, Survives};
+ghost use Rattle.sqlite.specs.Held.{state};
+ghost use Rattle.sqlite.specs.Values.{bound};
+ghost use Rattle.cs_store_sql.specs.Failing.{CannotCreate, CannotMake, CannotRead, EndsAs, FailsAt, IsFailure, puts, removes};
+ghost use Rattle.cs_store_sql.specs.Records.{DeclaresRecords, HoldsRecords, Sets, ListsTable};
+ghost use Rattle.cs_store_sql.specs.Records.{records_in, Makes, Rests, GoesOn, KeepsCrash};
+ghost use Rattle.cs_store_sql.specs.Records.{IsQuery, shown_keyed};
+ghost use Rattle.cs_store_sql.specs.Records.{LacksRecords, KeepsOthers, record_rows};
+ghost use Rattle.cs_store_sql.specs.Statements.{put_text as text_that_puts};
+
+use crate::fault::RecordsError;
+use crate::layout::{Declaration, declaration_of};
+use crate::meaning::creates;
+use crate::scan::content_at;
+use crate::texts;
+use sqlite::types::ValueRef;
+use sqlite::{Alter, Connection, Error, Row, params};
+use std::alloc::{AllocError, Global};
+use std::marker::Model;
+
+/// A key and a value, of a record of a known table.
+#[derive(Debug, Drop)]
+pub struct Keyed {
+    pub key: Vec<u8>,
+    pub value: Vec<u8>,
+}
+
+impl Model for Keyed {
+    ghost use Rattle.std.specs.Prelude.{List, ℕ};
+
+    ghost Value = { List ℕ × List ℕ };
+
+    ghost view = { λ r. (r.key.items, r.value.items) };
+}
+
+/// The rows that a text shows which asks for nothing but rows.
+fn query_rows<S: Alter>(
+    conn: &mut Connection<S>,
+    sql: &str,
+    params: &[ValueRef<'_>],
+) -> Result<Vec<Row>, RecordsError>
+    requires { IsQuery sql.now }
+    ensures shown { HasCleanDisk (state S.Store conn.new)
+        → IfOk result (λ rows. Shown sql.now (bound params.now) (state S.Store conn.old)
+        (state S.Store conn.new) rows.items) }
+    ensures reads { HasCleanDisk (state S.Store conn.new)
+        → OnOk result (IsUnchanged (state S.Store conn.old) (state S.Store conn.new)) }
+    ensures rests { HasCleanDisk (state S.Store conn.new)
+        → OnErr result (Rests (state S.Store conn.old) (state S.Store conn.new)) }
+    ensures failed { HasCleanDisk (state S.Store conn.new) → IfErr result (IsFailure
+        (FailsToQuery sql.now (bound params.now) (state S.Store conn.old) (state S.Store conn.new))) }
+    ensures keeps_crash { KeepsCrash (state S.Store conn.old) (state S.Store conn.new) }
+{
+    Ok(conn.query_all(sql, params)?)
+}
+
+/// The value of the record under a table's name and a key.
+pub fn find_record<S: Alter>(
+    conn: &mut Connection<S>,
+    tab: &str,
+    key: &[u8],
+) -> Result<Option<Vec<u8>>, RecordsError>
+    ensures found { HasCleanDisk (state S.Store conn.new) → HoldsRecords (state S.Store conn.old).now
+        → IfOk result (λ o. option_map (λ v. v.items) o ≡ records_in (state S.Store conn.old).now tab.now key.now) }
+    ensures reads { HasCleanDisk (state S.Store conn.new)
+        → OnOk result (IsUnchanged (state S.Store conn.old) (state S.Store conn.new)) }
+    ensures rests { HasCleanDisk (state S.Store conn.new)
+        → OnErr result (Rests (state S.Store conn.old) (state S.Store conn.new)) }
+    ensures failed { HasCleanDisk (state S.Store conn.new)
+        → (IsTrue (state S.Store conn.old).is_open → HoldsRecords (state S.Store conn.old).now)
+        → IfErr result (IsFailure (CannotRead (state S.Store conn.old) (state S.Store conn.new))) }
+    ensures keeps_crash { KeepsCrash (state S.Store conn.old) (state S.Store conn.new) }
+{
+    let rows = query_rows(conn, texts::FIND, params![tab, key])?;
+    match rows.first() {
+        Some(row) => Ok(Some(row.get(0)?)),
+        None => Ok(None),
+    }
+}
+
+/// The text that puts a record: a new one, which is refused where one is there, or one in place of that which is there.
+fn put_text(is_new: bool) -> &'static str
+    ensures { result.now ≡ text_that_puts is_new }
+{
+    if is_new { texts::INSERT } else { texts::PUT }
+}
+
+/// Puts the value under a table's name and a key, inside a transaction: a new record, where it is known that none has
+/// them, so that none is looked for to be replaced.
+pub fn put_record<S: Alter>(
+    conn: &mut Connection<S>,
+    tab: &str,
+    key: &[u8],
+    value: &[u8],
+    is_new: bool,
+) -> Result<(), RecordsError>
+    requires { IsTrue is_new → HasCleanDisk (state S.Store conn.old) → HoldsRecords (state S.Store conn.old).now
+        → records_in (state S.Store conn.old).now tab.now key.now ≡ None }
+    ensures set { HasCleanDisk (state S.Store conn.new) → HoldsRecords (state S.Store conn.old).now
+        → OnOk result (Sets (state S.Store conn.old).now (state S.Store conn.new).now
+        tab.now key.now (Some value.now)) }
+    ensures ends { HasCleanDisk (state S.Store conn.new) → HoldsRecords (state S.Store conn.old).now
+        → OnOk result (EndsAs (state S.Store conn.old) (puts is_new tab.now key.now value.now)
+        (state S.Store conn.new)) }
+    ensures goes_on { HasCleanDisk (state S.Store conn.new) → HoldsRecords (state S.Store conn.old).now
+        → IsTrue (state S.Store conn.old).in_transaction
+        → OnOk result (GoesOn (state S.Store conn.old) (state S.Store conn.new)) }
+    ensures marks { HasCleanDisk (state S.Store conn.new) → HoldsRecords (state S.Store conn.old).now
+        → OnOk result ((state S.Store conn.new).marks ≡ (state S.Store conn.old).marks) }
+    ensures rests { HasCleanDisk (state S.Store conn.new)
+        → OnErr result (Rests (state S.Store conn.old) (state S.Store conn.new)) }
+    ensures failed { HasCleanDisk (state S.Store conn.new) → IfErr result
+        (IsFailure (FailsAt (state S.Store conn.old) (state S.Store conn.new) (puts is_new tab.now key.now value.now))) }
+    ensures was_clean { HasCleanDisk (state S.Store conn.new) → HasCleanDisk (state S.Store conn.old) }
+    ensures survives { (HasCleanDisk (state S.Store conn.old) → HoldsRecords (state S.Store conn.old).now)
+        → (HasCleanDisk (state S.Store conn.old) → IsTrue (state S.Store conn.old).in_transaction)
+        → KeepsCrash (state S.Store conn.old) (state S.Store conn.new) }
+{
+    conn.execute(put_text(is_new), params![tab, key, value])?;
+    Ok(())
+}
+
+/// Removes the record under a table's name and a key, if there is one, inside a transaction.
+pub fn remove_record<S: Alter>(
+    conn: &mut Connection<S>,
+    tab: &str,
+    key: &[u8],
+) -> Result<(), RecordsError>
+    ensures removed { HasCleanDisk (state S.Store conn.new) → HoldsRecords (state S.Store conn.old).now
+        → OnOk result (Sets (state S.Store conn.old).now (state S.Store conn.new).now tab.now key.now None) }
+    ensures ends { HasCleanDisk (state S.Store conn.new) → HoldsRecords (state S.Store conn.old).now
+        → OnOk result (EndsAs (state S.Store conn.old) (removes tab.now key.now) (state S.Store conn.new)) }
+    ensures goes_on { HasCleanDisk (state S.Store conn.new) → HoldsRecords (state S.Store conn.old).now
+        → IsTrue (state S.Store conn.old).in_transaction
+        → OnOk result (GoesOn (state S.Store conn.old) (state S.Store conn.new)) }
+    ensures marks { HasCleanDisk (state S.Store conn.new) → HoldsRecords (state S.Store conn.old).now
+        → OnOk result ((state S.Store conn.new).marks ≡ (state S.Store conn.old).marks) }
+    ensures rests { HasCleanDisk (state S.Store conn.new)
+        → OnErr result (Rests (state S.Store conn.old) (state S.Store conn.new)) }
+    ensures failed { HasCleanDisk (state S.Store conn.new) → IfErr result
+        (IsFailure (FailsAt (state S.Store conn.old) (state S.Store conn.new) (removes tab.now key.now))) }
+    ensures survives { (HasCleanDisk (state S.Store conn.old) → HoldsRecords (state S.Store conn.old).now)
+        → (HasCleanDisk (state S.Store conn.old) → IsTrue (state S.Store conn.old).in_transaction)
+        → KeepsCrash (state S.Store conn.old) (state S.Store conn.new) }
+{
+    conn.execute(texts::REMOVE, params![tab, key])?;
+    Ok(())
+}
+
+/// Returns the key and the value that a row shows.
+fn read_keyed(alloc: Global, row: &Row) -> Result<Keyed, AllocError>
+    ensures { IfOk result (λ keyed. keyed ≡ shown_keyed row.now) }
+{
+    Ok(Keyed {
+        key: Vec::from_slice(alloc, content_at(row, 0))?,
+        value: Vec::from_slice(alloc, content_at(row, 1))?,
+    })
+}
+
+/// Returns what the rows of a listing under a name show.
+fn keyed_rows(alloc: Global, rows: &[Row]) -> Result<Vec<Keyed>, AllocError>
+    ensures { IfOk result (λ listed. listed.items ≡ map shown_keyed rows.now) }
+{
+    let mut listed = Vec::new(alloc);
+    for row in rows {
+        listed.push(read_keyed(alloc, row)?)?;
+    }
+    Ok(listed)
+}
+
+/// The keys and values under a table's name, by key.
+pub fn list_records<S: Alter>(
+    conn: &mut Connection<S>,
+    alloc: Global,
+    tab: &str,
+) -> Result<Vec<Keyed>, RecordsError>
+    ensures listed { HasCleanDisk (state S.Store conn.new) → HoldsRecords (state S.Store conn.old).now
+        → IfOk result (λ listed. ListsTable (records_in (state S.Store conn.old).now) tab.now listed.items) }
+    ensures reads { HasCleanDisk (state S.Store conn.new)
+        → OnOk result (IsUnchanged (state S.Store conn.old) (state S.Store conn.new)) }
+    ensures rests { HasCleanDisk (state S.Store conn.new)
+        → OnErr result (Rests (state S.Store conn.old) (state S.Store conn.new)) }
+    ensures failed { HasCleanDisk (state S.Store conn.new)
+        → (IsTrue (state S.Store conn.old).is_open → DeclaresRecords (state S.Store conn.old).now.schema)
+        → IfErr result (IsFailure (CannotRead (state S.Store conn.old) (state S.Store conn.new))) }
+    ensures keeps_crash { KeepsCrash (state S.Store conn.old) (state S.Store conn.new) }
+{
+    let rows = query_rows(conn, texts::LIST, params![tab])?;
+    Ok(keyed_rows(alloc, rows.as_slice())?)
+}
+
+/// Executes the text that makes the table of records, if it does so under the schema of the database.
+fn create_table<S: Alter>(conn: &mut Connection<S>, alloc: Global) -> Result<(), RecordsError>
+    ensures makes { HasCleanDisk (state S.Store conn.new)
+        → OnOk result (Makes (state S.Store conn.old).now (state S.Store conn.new).now) }
+    ensures goes_on { HasCleanDisk (state S.Store conn.new) → IsTrue (state S.Store conn.old).in_transaction
+        → OnOk result (GoesOn (state S.Store conn.old) (state S.Store conn.new)) }
+    ensures commit { HasCleanDisk (state S.Store conn.new)
+        → OnErr result (KeepsCommit (state S.Store conn.old) (state S.Store conn.new)) }
+    ensures failed { HasCleanDisk (state S.Store conn.new)
+        → IfErr result (IsFailure (CannotCreate (state S.Store conn.old) (state S.Store conn.new))) }
+    ensures survives { (HasCleanDisk (state S.Store conn.old) → IsTrue (state S.Store conn.old).in_transaction)
+        → KeepsCrash (state S.Store conn.old) (state S.Store conn.new) }
+{
+    if !creates(alloc, conn.schema())? {
+        return Err(RecordsError::Database(Error::InvalidQuery));
+    }
+    conn.execute(texts::CREATE, &[])?;
+    Ok(())
+}
+
+/// Makes the table of records, inside a transaction, in a database where nothing has its name.
+pub fn make_table<S: Alter>(conn: &mut Connection<S>, alloc: Global) -> Result<(), RecordsError>
+    requires { HasCleanDisk (state S.Store conn.old) → IsTrue (state S.Store conn.old).in_transaction }
+    ensures made { HasCleanDisk (state S.Store conn.new) → LacksRecords (state S.Store conn.old).now.schema
+        → OnOk result (HoldsRecords (state S.Store conn.new).now × (record_rows (state S.Store conn.new).now ≡ [])) }
+    ensures others { HasCleanDisk (state S.Store conn.new)
+        → OnOk result (KeepsOthers (state S.Store conn.old).now (state S.Store conn.new).now) }
+    ensures goes_on { HasCleanDisk (state S.Store conn.new)
+        → OnOk result (GoesOn (state S.Store conn.old) (state S.Store conn.new)) }
+    ensures commit { HasCleanDisk (state S.Store conn.new)
+        → OnErr result (KeepsCommit (state S.Store conn.old) (state S.Store conn.new)) }
+    ensures failed { HasCleanDisk (state S.Store conn.new)
+        → IfErr result (IsFailure (CannotMake (state S.Store conn.old) (state S.Store conn.new))) }
+    ensures survives { KeepsCrash (state S.Store conn.old) (state S.Store conn.new) }
+{
+    create_table(conn, alloc)?;
+    match declaration_of(alloc, conn.schema())? {
+        Declaration::Records => Ok(()),
+        _ => Err(RecordsError::Database(Error::InvalidQuery)),
+    }
+}
