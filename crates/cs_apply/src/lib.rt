@@ -8,9 +8,9 @@
 //! revert(alloc, &mut store, file)?;
 //! ```
 //!
-//! `store` applies a file to the rows of a batch, by `cs_apply_engine`, and commits the batch or drops it. `transaction`
-//! applies one in a transaction that goes on. The names of `cs_apply_engine` are passed on. `CALLING.md`, next to this
-//! folder, shows a caller.
+//! `store` applies a file to the rows of a batch, by `cs_apply_engine`, and commits the batch or drops it.
+//! `transaction` applies one in a transaction that goes on. The names of `cs_apply_engine` are passed on. `CALLING.md`,
+//! next to this folder, shows a caller.
 #![tactic(auto)]
 
 mod store;

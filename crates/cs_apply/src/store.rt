@@ -19,7 +19,9 @@ ghost use Rattle.cs_apply_engine.specs.Running.{IsCaused, IsNamed, IsResource};
 ghost use Rattle.cs_apply_engine.specs.Writes.{IsFileWrite};
 
 use cs_apply_conflict_kinds::{Choice, Noop};
-use cs_apply_engine::{ApplyFault, Conflict, Direction, Report, Summary, Tally, Writings, tally_in};
+use cs_apply_engine::{
+    ApplyFault, Conflict, Direction, Report, Summary, Tally, Writings, tally_in,
+};
 use cs_store::Store;
 use cs_wire::changeset_files_law;
 use sqlite::Alter;

@@ -5,7 +5,8 @@ use Rattle.cs_wire.specs.Changeset.{GroupData}
 use Rattle.cs_group.specs.Numbering.{numbered_flags, numbered}
 use Rattle.cs_apply_conflict_kinds.specs.Judging.{judged}
 use Rattle.cs_apply_conflict_kinds.specs.declared.conflict.Noop.{Noop}
-use Rattle.cs_apply_conflict_kinds.specs.Applying.{PlacedEntry, skipped, ignored, met_under, IsClean, Choices, written_under}
+use Rattle.cs_apply_conflict_kinds.specs.Applying.{PlacedEntry, IsClean, Choices}
+use Rattle.cs_apply_conflict_kinds.specs.Applying.{skipped, ignored, met_under, written_under}
 use Rattle.cs_apply_conflict_kinds.specs.Applying.{IsAppliedUnder}
 
 -- the entry under numbered flags

@@ -1,6 +1,7 @@
 //! Laws of all states and changesets. These functions do nothing. Each has a law as its contract, and a proof uses the
 //! law by calling the function.
-ghost use Rattle.cs_apply_conflict_kinds.specs.Laws.{AppliedOnce, AppliedReverts, WrittenTells, IdleCases, IgnoredStand};
+ghost use Rattle.cs_apply_conflict_kinds.specs.Laws.{AppliedOnce, AppliedReverts, WrittenTells};
+ghost use Rattle.cs_apply_conflict_kinds.specs.Laws.{IdleCases, IgnoredStand};
 ghost use Rattle.cs_apply_conflict_kinds.specs.JoinLaw.{JoinApplies, JoinNets};
 ghost use Rattle.cs_apply_conflict_kinds.specs.NumberingLaw.{NumberingDoes};
 

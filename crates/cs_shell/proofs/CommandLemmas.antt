@@ -2,7 +2,7 @@
 use Rattle.std.proofs.Common.{List, ℕ, Option, None, Some, Err, refl, inl, inr}
 use Rattle.cs_rows.specs.declared.fault.StoreError.TheVariants as store
 use Rattle.cs_file_texts.specs.declared.told.Told.{Told}
-use Rattle.cs_shell.specs.Words.{Asked, Apply, Concat, Dump, Sql, Invert, Shell}
+use Rattle.cs_shell_command_line.specs.Words.{Asked, Apply, Concat, Dump, Sql, Invert, Shell}
 use Rattle.cs_folder.specs.Files.{Files}
 use Rattle.cs_store_folder.specs.Visits.{RefusesVisit}
 use Rattle.cs_shell_replies.specs.declared.refusal.Refusal.TheVariants as refusal

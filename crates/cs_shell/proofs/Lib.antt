@@ -1,3 +1,1 @@
 pub mod CommandLemmas
-pub mod WordExamples
-pub mod WordsLemmas

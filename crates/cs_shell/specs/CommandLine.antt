@@ -6,8 +6,8 @@ use Rattle.cs_file_texts.specs.declared.told.Told.{Told}
 use Rattle.cs_files.specs.Told.{has_failed, known}
 use Rattle.cs_file_texts.specs.declared.fault.OutputFault.{OutputFault as Fault}
 use Rattle.cs_files.specs.Calls.{AppendsFront, Writes}
-use Rattle.cs_shell.specs.Words.{Asked, Shell, Refuses}
-use Rattle.cs_shell.specs.declared.fault.WordsFault.TheVariants as fault
+use Rattle.cs_shell_command_line.specs.Words.{Asked, Shell, Refuses}
+use Rattle.cs_shell_command_line.specs.declared.fault.WordsFault.TheVariants as fault
 use Rattle.cs_shell_replies.specs.declared.refusal.Refusal.{Refusal}
 use Rattle.cs_shell_replies.specs.declared.refusal.Refusal.TheVariants.{NoMemory, Input, Output}
 use Rattle.cs_shell_script.specs.declared.script.Status.{Status}

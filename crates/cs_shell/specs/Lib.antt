@@ -1,4 +1,4 @@
-pub mod Words
+pub use Rattle.cs_shell_command_line.specs.Words
 pub mod CommandLine
 pub mod Scripts
 pub mod Outcomes

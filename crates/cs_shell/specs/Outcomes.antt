@@ -3,7 +3,7 @@ use Rattle.std.specs.Prelude.{◌≡◌, ℕ, List, Option, Result, Ok, Err, IfE
 use Rattle.cs_file_texts.specs.declared.told.Told.{Told}
 use Rattle.cs_file_texts.specs.Texts.{dump_of, sql_of}
 use Rattle.cs_folder.specs.Files.{Files}
-use Rattle.cs_shell.specs.Words.{Asked, Apply, Concat, Dump, Sql, Invert, Shell}
+use Rattle.cs_shell_command_line.specs.Words.{Asked, Apply, Concat, Dump, Sql, Invert, Shell}
 use Rattle.cs_shell_replies.specs.declared.refusal.Refusal.{Refusal}
 use Rattle.cs_shell_commands.specs.Applies.{Applies}
 use Rattle.cs_shell_commands.specs.Folders.{InvertsFile, JoinsFiles, PrintsFile}

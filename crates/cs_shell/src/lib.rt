@@ -10,32 +10,25 @@
 //! assert_eq!(rt; output, b"'x'\n");
 //! ```
 //!
-//! `command_line` has the options and the operands as `clap` reads them. `parse` takes from its matches what is asked
-//! for: an `action`, or else a `fault`. [`cs_shell_commands`] has the commands, over a folder of [`cs_folder`] and
-//! [`cs_store_folder`], and `scripting` the script that a command line runs on the store in a file. `words` answers the
-//! words of a command line.
+//! [`cs_shell_command_line`] reads the words of a command line. [`cs_shell_commands`] has the commands, over a folder
+//! of [`cs_folder`] and [`cs_store_folder`], and `scripting` the script that a command line runs on the store in a
+//! file. `words` carries out the words of a command line.
 #![tactic(auto)]
 
-mod action;
-mod command_line;
-mod fault;
-mod parse;
 mod scripting;
 mod words;
 
-pub use action::Action;
 pub use cs_files::{
     FileFault, OutputFault, PrintError, Told, ToolFault, concat_bytes, dump_file, dump_text,
     first_fault, invert_bytes, number_keys_bytes, print_dump, print_sql, sql_file, sql_text,
 };
 pub use cs_folder::{Folder, FolderError, HostFolder, MemoryFolder};
 pub use cs_group::SchemaFault;
+pub use cs_shell_command_line::{Action, WordsFault, parse_words};
 pub use cs_shell_commands::{apply, concat, dump, invert, sql};
 pub use cs_shell_grammar::{Assignment, Command, LineFault, SyntaxFault, parse_line};
 pub use cs_shell_replies::report_text;
 pub use cs_shell_script::{Status, run_script, script_net_law};
 pub use cs_store_folder::{StoreFolder, Visitor};
 pub use cs_wire::{ReadError, ReadFault, ReadFaultKind};
-pub use fault::WordsFault;
-pub use parse::parse_words;
 pub use words::{print_usage, run_words, run_words_in};

@@ -3,22 +3,19 @@ ghost use Rattle.std.specs.Prelude.{◌≡◌, ◌≢◌, ◌≤◌, None, Some,
 ghost use Rattle.std.specs.Io.KnownBytes.{Appends};
 ghost use Rattle.cs_files.specs.Told.{has_failed, known};
 ghost use Rattle.cs_files.specs.Calls.{AppendsFront};
-ghost use Rattle.cs_shell_commands.specs.Applies.{in_memory};
-ghost use Rattle.cs_shell.specs.Words.{Asked, Refuses, Shell, asked, asked_of};
-ghost use Rattle.cs_shell.specs.declared.fault.WordsFault.TheVariants as fault;
+ghost use Rattle.cs_shell_command_line.specs.Words.{Asked, Refuses, Shell, asked, asked_of, in_memory};
+ghost use Rattle.cs_shell_command_line.specs.declared.fault.WordsFault.TheVariants as fault;
 ghost use Rattle.cs_shell_script.specs.Runs.{exit_of};
 ghost use Rattle.cs_shell.specs.Outcomes.{CarriesOut, EndsAs};
 ghost use Rattle.cs_shell.specs.Scripts.{EndsScript, Scripts};
 ghost use Rattle.cs_shell.specs.CommandLine.{EndsUnasked, Helps, IsCommand};
 ghost use Rattle.cs_shell.specs.CommandLine.{Reports, ReportsStatus, RunsInMemory};
 
-use crate::action::Action;
-use crate::fault::WordsFault;
-use crate::parse::parse_words;
 use crate::scripting::Scripting;
 use cs_files::{OutputFault, Told, write_whole};
 use cs_folder::{Folder, HostFolder};
-use cs_shell_commands::{IN_MEMORY, apply, concat, dump, invert, sql};
+use cs_shell_command_line::{Action, IN_MEMORY, USAGE, WordsFault, parse_words};
+use cs_shell_commands::{apply, concat, dump, invert, sql};
 use cs_shell_replies::{Refusal, write_refusal};
 use cs_shell_script::{Status, run_script};
 use cs_store::StoreError;
@@ -27,19 +24,6 @@ use cs_store_memory::{memory_files_law, open_memory};
 use std::alloc::Global;
 use std::io::{Read, Write};
 use std::rt::HostRuntime;
-
-/// The answer to words that fit no command.
-const USAGE: &str = "\
-Usage: changeset [--data C] [--notfound C] [--conflict C] [--constraint C] [--ignore-noop] FILE COMMAND ...
-COMMANDs:
-  apply STORE        Apply the changeset to the store STORE
-  concat FILE2 OUT   Concatenate FILE and FILE2 into OUT
-  dump               Show the complete content of the changeset
-  invert OUT         Write an inverted changeset into file OUT
-  sql                Give a pseudo-SQL rendering of the changeset
-  shell              Run a script from standard input on the store FILE
-C is omit, replace or abort (the default).
-";
 
 /// Writes the error line of a refusal. A failure to write it is not reported.
 fn report<E: Write>(err: &mut Told<E>, refusal: &Refusal)

@@ -1,5 +1,5 @@
 -- What an apply of a file makes of the tables of a store, what it prints, and how it ends.
-use Rattle.std.specs.Prelude.{◌≡◌, ◌≢◌, ◌⊎◌, ℕ, List, Option, None, Result, Ok, Err, codes}
+use Rattle.std.specs.Prelude.{◌≡◌, ◌≢◌, ◌⊎◌, ℕ, List, Option, None, Result, Ok, Err}
 use Rattle.std.specs.FinMap as map
 use Rattle.cs_value.specs.State.{State}
 use Rattle.cs_apply_conflict_kinds.specs.declared.conflict.Noop.{Noop}
@@ -12,6 +12,7 @@ use Rattle.cs_file_texts.specs.declared.fault.OutputFault.{OutputFault}
 use Rattle.cs_files.specs.Calls.{Writes}
 use Rattle.cs_folder.specs.Files.{Files, HasFile}
 use Rattle.cs_store_folder.specs.Visits.{RefusesVisit, Visits}
+use Rattle.cs_shell_command_line.specs.Words.{in_memory}
 use Rattle.cs_shell_executor.specs.LineAnswers.{AnswersApply, ApplyGives, ByKind}
 use Rattle.cs_shell_executor.specs.Works.{Gave}
 use Rattle.cs_shell_replies.specs.declared.refusal.Refusal.{Refusal}
@@ -20,10 +21,6 @@ use Rattle.cs_shell_replies.specs.ErrorLines.{of_store}
 use Rattle.cs_shell_replies.specs.declared.reply.Reply.{Reply as ReplyOf}
 use Rattle.cs_shell_replies.specs.Replies.{Reply, answer_of, reply_of, reply_text}
 use Rattle.cs_shell_commands.specs.Folders.{RefusesRead}
-
--- The name of the store that is in memory.
-abbrev pub in_memory : List ℕ
-in_memory = codes ":memory:"
 
 -- The apply of a file under a policy gave this reply, from these tables to those.
 abbrev pub FileGives : Policy → Noop → List ℕ → Reply → State → State → Type 0

@@ -6,6 +6,7 @@ ghost use Rattle.cs_shell_commands.specs.Applies.{Applies, AppliesInFolder, Appl
 use crate::files::read_file;
 use cs_apply::{Noop, Policy};
 use cs_files::Told;
+use cs_shell_command_line::IN_MEMORY;
 use cs_shell_executor::apply_unnoted;
 use cs_shell_replies::{Refusal, Reply, write_reply};
 use cs_store::{Store, StoreError};
@@ -14,9 +15,6 @@ use cs_store_memory::{memory_files_law, open_memory};
 use sqlite::Alter;
 use std::alloc::Global;
 use std::io::Write;
-
-/// The name of the store that is in memory, in place of one in a file.
-pub const IN_MEMORY: &str = ":memory:";
 
 /// Applies a file to the store, and keeps the reply.
 #[derive(Drop)]

@@ -14,5 +14,5 @@
 mod applying;
 mod files;
 
-pub use applying::{IN_MEMORY, apply};
+pub use applying::apply;
 pub use files::{concat, dump, invert, sql};

@@ -1,6 +1,6 @@
 -- `applying::apply`: what it ensures for a store in memory.
 use Rattle.std.proofs.Common.{◌≡◌, refl, inl, inr, rules}
-use Rattle.cs_shell_commands.specs.Applies.{in_memory}
+use Rattle.cs_shell_command_line.specs.Words.{in_memory}
 use Rattle.cs_shell_commands.proofs.applying.apply.Goals as goal
 
 pub returns-in-Ok : goal.returns-in-Ok

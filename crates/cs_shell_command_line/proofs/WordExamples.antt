@@ -7,7 +7,7 @@ use Rattle.cs_apply_conflict_kinds.specs.declared.conflict.Choice.{Choice}
 use Rattle.cs_apply_conflict_kinds.specs.declared.conflict.Choice.TheVariants as choice
 use Rattle.cs_apply_conflict_kinds.specs.declared.conflict.Noop.TheVariants.{Report, Ignore}
 use Rattle.cs_apply_engine.specs.declared.policy.Policy.{Policy}
-use Rattle.cs_shell.specs.Words.{asked, command_app, Apply, Concat, Dump, Sql, Invert, Shell}
+use Rattle.cs_shell_command_line.specs.Words.{asked, command_app, Apply, Concat, Dump, Sql, Invert, Shell}
 
 abbrev policy : Choice → Choice → Choice → Choice → Policy
 policy on_data on_notfound on_conflict on_constraint = record { on_data = on_data; on_notfound = on_notfound; on_conflict = on_conflict; on_constraint = on_constraint }

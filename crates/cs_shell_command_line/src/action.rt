@@ -3,6 +3,9 @@
 use cs_apply_conflict_kinds::Noop;
 use cs_apply_engine::Policy;
 
+/// The name of the store that is in memory, in place of one in a file.
+pub const IN_MEMORY: &str = ":memory:";
+
 /// What the words of a command line ask for. Files and stores are named by their paths.
 #[derive(Clone, Copy, Debug)]
 pub enum Action<'a> {
@@ -32,7 +35,7 @@ pub enum Action<'a> {
         file: &'a str,
         out: &'a str,
     },
-    /// The input is run as a script on a store, which may be [`IN_MEMORY`](cs_shell_commands::IN_MEMORY).
+    /// The input is run as a script on a store, which may be [`IN_MEMORY`].
     Shell {
         file: &'a str,
     },

@@ -2,7 +2,7 @@
 use Rattle.std.proofs.Common.{◌∙◌}
 use Rattle.clap.specs.Words.{found_of}
 use Rattle.clap.proofs.WalkLemmas.{first_value-rows}
-use Rattle.cs_shell.proofs.parse.word_of.Goals as goal
+use Rattle.cs_shell_command_line.proofs.parse.word_of.Goals as goal
 
 pub returns : goal.returns
 returns c = c.get_str.ensures ∙ first_value-rows (found_of c.args.matches.now) c.args.name.now

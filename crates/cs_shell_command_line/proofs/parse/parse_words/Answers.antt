@@ -5,9 +5,9 @@ use Rattle.std.proofs.lemmas.List.{length-map}
 use Rattle.std.proofs.lemmas.Result.{err_from_is_err_and}
 use Rattle.clap.specs.Words.{App, HasKind, app_of, fault_of, kind_of, is_simple, matches_of, takes, found_of, rows_of}
 use Rattle.clap.specs.Faults.{is_simple_and_free}
-use Rattle.cs_shell.specs.Words.{asked_by, asked_of, command_app}
-use Rattle.cs_shell.proofs.WordsLemmas.{is_simple_app, is_free_app, refuses_kind, refuses_misfit, asked_fit}
-use Rattle.cs_shell.proofs.parse.parse_words.Goals as goal
+use Rattle.cs_shell_command_line.specs.Words.{asked_by, asked_of, command_app}
+use Rattle.cs_shell_command_line.proofs.WordsLemmas.{is_simple_app, is_free_app, refuses_kind, refuses_misfit, asked_fit}
+use Rattle.cs_shell_command_line.proofs.parse.parse_words.Goals as goal
 
 pub returns-in_err-matches-clause-refused : goal.returns-in_err-matches-clause-refused
 returns-in_err-matches-clause-refused c =

@@ -2,8 +2,8 @@
 use Rattle.std.proofs.Common.{◌∙◌, [], sym, codes, rules}
 use Rattle.clap.specs.Words.{found_of, rows_of}
 use Rattle.clap.proofs.WalkLemmas.{raw_values-rows}
-use Rattle.cs_shell.proofs.WordsLemmas.{asked_with}
-use Rattle.cs_shell.proofs.parse.action_of.Goals as goal
+use Rattle.cs_shell_command_line.proofs.WordsLemmas.{asked_with}
+use Rattle.cs_shell_command_line.proofs.parse.action_of.Goals as goal
 
 pub returns-in-Some : goal.returns-in-Some
 returns-in-Some c =

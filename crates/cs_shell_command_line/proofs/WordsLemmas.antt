@@ -7,9 +7,9 @@ use Rattle.clap.specs.declared.error.kind.ErrorKind.TheVariants as kind
 use Rattle.clap.proofs.OnLiterals.{clap_on_literals}
 use Rattle.cs_apply_conflict_kinds.specs.declared.conflict.Noop.{Noop}
 use Rattle.cs_apply_engine.specs.declared.policy.Policy.{Policy}
-use Rattle.cs_shell.specs.declared.fault.WordsFault.{WordsFault}
-use Rattle.cs_shell.specs.declared.fault.WordsFault.TheVariants as fault
-use Rattle.cs_shell.specs.Words.{Asked, AskNothing, Refuses, arguments_in, asked, asked_by, asked_where, command_app, command_in, fault_of_kind, noop_in, policy_in}
+use Rattle.cs_shell_command_line.specs.declared.fault.WordsFault.{WordsFault}
+use Rattle.cs_shell_command_line.specs.declared.fault.WordsFault.TheVariants as fault
+use Rattle.cs_shell_command_line.specs.Words.{Asked, AskNothing, Refuses, arguments_in, asked, asked_by, asked_where, command_app, command_in, fault_of_kind, noop_in, policy_in}
 
 pub is_simple_app : is_simple command_app ≡ true
 unfolding clap_on_literals

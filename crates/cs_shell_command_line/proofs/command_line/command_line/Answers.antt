@@ -2,7 +2,7 @@
 use Rattle.std.proofs.Common.{◌∙◌, ap₂}
 use Rattle.std.proofs.lemmas.Result.{IfOk-weaker}
 use Rattle.clap.specs.Words.{with_rule}
-use Rattle.cs_shell.proofs.command_line.command_line.Goals as goal
+use Rattle.cs_shell_command_line.proofs.command_line.command_line.Goals as goal
 
 pub returns : goal.returns
 returns c =

@@ -1,8 +1,8 @@
 //! Why words ask for nothing.
 ghost use Rattle.std.specs.Prelude.{◌≡◌};
 ghost use Rattle.clap.specs.Words.{kind_of};
-ghost use Rattle.cs_shell.specs.Words.{fault_of_kind};
-ghost use Rattle.cs_shell.specs.declared.fault.WordsFault.TheVariants as fault;
+ghost use Rattle.cs_shell_command_line.specs.Words.{fault_of_kind};
+ghost use Rattle.cs_shell_command_line.specs.declared.fault.WordsFault.TheVariants as fault;
 
 use clap::error::ErrorKind;
 use std::alloc::AllocError;

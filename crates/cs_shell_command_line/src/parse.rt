@@ -1,16 +1,16 @@
 //! What the words that `clap` matched ask for.
 ghost use Rattle.std.specs.Prelude.{◌≡◌, IfOk, IfErr, map as map_list, option_map, string_bytes};
 ghost use Rattle.clap.specs.Words.{first_of, found_of, rows_of};
-ghost use Rattle.cs_shell.specs.Words.{asked, asked_by, asked_of, choice_in, chosen, noop_in, policy_in, Refuses};
-ghost use Rattle.cs_shell.specs.Words.{bare_in, short_in, long_in, command_in};
+ghost use Rattle.cs_shell_command_line.specs.Words.{asked, asked_by, asked_of, Refuses};
+ghost use Rattle.cs_shell_command_line.specs.Words.{choice_in, chosen, noop_in, policy_in};
+ghost use Rattle.cs_shell_command_line.specs.Words.{bare_in, short_in, long_in, command_in};
 
-use crate::action::Action;
+use crate::action::{Action, IN_MEMORY};
 use crate::command_line::command_line;
 use crate::fault::WordsFault;
 use clap::ArgMatches;
 use cs_apply_conflict_kinds::Noop;
 use cs_apply_engine::{Choice, Policy};
-use cs_shell_commands::IN_MEMORY;
 use cs_shell_grammar::choice_name;
 use std::alloc::Global;
 

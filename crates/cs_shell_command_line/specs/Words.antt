@@ -1,6 +1,6 @@
 -- What the words of a command line ask for, over what `clap` says that a command takes from words. The commands and
 -- their arguments are those of SQLite's `changeset` utility; the options and `shell` are this project's own.
-use Rattle.std.specs.Prelude.{◌≡◌, ◌⊎◌, true, List, [], ◌∷◌, codes, if◌then◌else◌}
+use Rattle.std.specs.Prelude.{◌≡◌, ◌⊎◌, ℕ, true, List, [], ◌∷◌, codes, if◌then◌else◌}
 use Rattle.std.specs.Prelude.{Option, Some, None, option_and_then, option_map, unwrap_or}
 use Rattle.std.specs.Str.{bytes_eq}
 use Rattle.clap.specs.Lexer.{usize_max}
@@ -15,11 +15,14 @@ use Rattle.cs_apply_conflict_kinds.specs.declared.conflict.Noop.{Noop}
 use Rattle.cs_apply_conflict_kinds.specs.declared.conflict.Noop.TheVariants.{Report, Ignore}
 use Rattle.cs_apply_engine.specs.declared.policy.Policy.{Policy}
 use Rattle.cs_shell_grammar.specs.Commands.{choice_text}
-use Rattle.cs_shell.specs.declared.action.Action.{Action}
-use Rattle.cs_shell.specs.declared.action.Action.TheVariants as action
-use Rattle.cs_shell.specs.declared.fault.WordsFault.{WordsFault}
-use Rattle.cs_shell_commands.specs.Applies.{in_memory}
-use Rattle.cs_shell.specs.declared.fault.WordsFault.TheVariants as fault
+use Rattle.cs_shell_command_line.specs.declared.action.Action.{Action}
+use Rattle.cs_shell_command_line.specs.declared.action.Action.TheVariants as action
+use Rattle.cs_shell_command_line.specs.declared.fault.WordsFault.{WordsFault}
+use Rattle.cs_shell_command_line.specs.declared.fault.WordsFault.TheVariants as fault
+
+-- the name of the store that is in memory
+abbrev pub in_memory : List ℕ
+in_memory = codes ":memory:"
 
 -- what words ask for; files and stores are named by bytes
 pub data Asked : Type 0 where

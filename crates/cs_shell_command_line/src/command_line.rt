@@ -1,7 +1,7 @@
 //! The command line as `clap` reads it.
 ghost use Rattle.std.specs.Prelude.{◌≡◌, IfOk, false};
 ghost use Rattle.clap.specs.Words.{app_of, rule_of};
-ghost use Rattle.cs_shell.specs.Words.{command_app, choice_rule, flag_rule, operand_rule, rest_rule};
+ghost use Rattle.cs_shell_command_line.specs.Words.{command_app, choice_rule, flag_rule, operand_rule, rest_rule};
 
 use clap::{Arg, ArgAction, Command};
 use std::alloc::{AllocError, Global};

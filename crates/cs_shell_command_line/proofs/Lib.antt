@@ -1,0 +1,2 @@
+pub mod WordExamples
+pub mod WordsLemmas
