@@ -115,11 +115,18 @@ class Blocks(unittest.TestCase):
 class Calls(unittest.TestCase):
     """The page of calls has the bytes that the tests in Rattle read and write."""
 
-    def test_example(self):
-        [(_, shown)] = [block for block in blocks_of(TOP / "docs/CALLS.md") if block[0] == "text"]
+    def setUp(self):
+        self.frames, self.call = [text for tag, text in blocks_of(TOP / "docs/CALLS.md") if tag == "text"]
+
+    def test_frames(self):
+        for line in self.frames.splitlines():
+            frame = bytes.fromhex(line)
+            self.assertEqual(int.from_bytes(frame[:4], "big"), len(frame[4:]))
+
+    def test_call(self):
         tests = (TOP / "crates/format_tests/src/requests.rt").read_text()
         written = re.search(r'^const AFTER: &\[u8\] =\s*(b".*");$', tests, re.M)
-        self.assertEqual(bytes.fromhex(shown), ast.literal_eval(written[1]))
+        self.assertEqual(bytes.fromhex(self.call), ast.literal_eval(written[1]))
 
 
 class Manual(unittest.TestCase):

@@ -25,7 +25,7 @@ use Rattle.cs_calls_answers.specs.declared.conflicts.MetConflict.{MetConflict}
 use Rattle.cs_calls_answers.specs.declared.conflicts.FoundConflict.{FoundConflict}
 use Rattle.cs_calls_answers.specs.Laws.{AnswerBytes}
 use Rattle.cs_calls_answers.specs.Spelling.{HasCounts, MetCounts, FoundCounts, IsWide, IsRowList, IsMet, IsFound, IsReport, IsRefused, IsAnswer, met_bytes, found_bytes, report_bytes, refused_bytes, number_of, parts_of, answer_bytes}
-use Rattle.cs_calls_answers.specs.Reading.{met_of, found_of, report_of, refused_of, names_of, schema_of, found_row_of, rows_of, count_of, reported_of, conflicts_of, changeset_of, said_of, limits_of, refusal_of, answer_by, answer_at, whole_answer}
+use Rattle.cs_calls_answers.specs.Reading.{met_of, found_of, report_of, refused_of, names_of, schema_of, found_row_of, rows_of, count_of, reported_of, conflicts_of, changeset_of, said_of, limits_of, refusal_of, unread_of, answer_by, answer_at, whole_answer}
 
 -- ---- texts after one another
 
@@ -139,7 +139,7 @@ codec_wide_option : IsCodec (λ o. IfSome o IsWide) (option_bytes wide_bytes) (o
 codec_wide_option = codec_option IsWide wide_bytes wide_of codec_wide
 
 abbrev refused_with : ℕ → Option (List ℕ) → Option (List ℕ) → Option (List OwnedValue) → Option ℕ → Refused
-refused_with code table column key place = record { code = code; table = table; column = column; key = key; place = place }
+refused_with code table column key detail = record { code = code; table = table; column = column; key = key; detail = detail }
 
 refused_takes : (bytes : List ℕ) (refused : Refused) (rest : List ℕ) → AreBytes bytes → refused_of bytes ≡ Ok (refused, rest) → Takes bytes (refused_bytes refused) rest × IsRefused refused
 unfolding refused_of refused_bytes
@@ -153,7 +153,7 @@ refused_takes bytes refused rest fits e =
     let abc = Takes-then bytes (wide_bytes a.value ++ option_bytes counted b.value) b.rest (option_bytes counted c.value) c.rest ab c.takes in
     let abcd = Takes-then bytes (wide_bytes a.value ++ option_bytes counted b.value ++ option_bytes counted c.value) c.rest (option_bytes row_bytes d.value) d.rest abc d.takes in
     let whole = Takes-then bytes (wide_bytes a.value ++ option_bytes counted b.value ++ option_bytes counted c.value ++ option_bytes row_bytes d.value) d.rest (option_bytes wide_bytes f.value) f.rest abcd f.takes in
-    given (λ (p : Refused × List ℕ). Takes bytes (refused_bytes p.0) p.1 × IsRefused p.0) (refused_with a.value b.value c.value d.value f.value, f.rest) (refused, rest) f.goes_on (whole, record { code = a.is; table = b.is; column = c.is; key = d.is; place = f.is })
+    given (λ (p : Refused × List ℕ). Takes bytes (refused_bytes p.0) p.1 × IsRefused p.0) (refused_with a.value b.value c.value d.value f.value, f.rest) (refused, rest) f.goes_on (whole, record { code = a.is; table = b.is; column = c.is; key = d.is; detail = f.is })
 
 refused_again : (refused : Refused) (rest : List ℕ) → IsRefused refused → refused_of (refused_bytes refused ++ rest) ≡ Ok (refused, rest)
 unfolding refused_of refused_bytes
@@ -162,8 +162,8 @@ refused_again refused rest is =
     let b = option_bytes counted refused.table in
     let c = option_bytes counted refused.column in
     let d = option_bytes row_bytes refused.key in
-    let f = option_bytes wide_bytes refused.place in
-    ap refused_of (regrouped5 a b c d f rest) ∙ rw (codec_wide.again refused.code (b ++ (c ++ (d ++ (f ++ rest)))) is.code, codec_text_option.again refused.table (c ++ (d ++ (f ++ rest))) is.table, codec_text_option.again refused.column (d ++ (f ++ rest)) is.column, codec_row_option.again refused.key (f ++ rest) is.key, codec_wide_option.again refused.place rest is.place) refl
+    let f = option_bytes wide_bytes refused.detail in
+    ap refused_of (regrouped5 a b c d f rest) ∙ rw (codec_wide.again refused.code (b ++ (c ++ (d ++ (f ++ rest)))) is.code, codec_text_option.again refused.table (c ++ (d ++ (f ++ rest))) is.table, codec_text_option.again refused.column (d ++ (f ++ rest)) is.column, codec_row_option.again refused.key (f ++ rest) is.key, codec_wide_option.again refused.detail rest is.detail) refl
 
 -- ---- what is read of an answer is spelled so
 
@@ -260,12 +260,19 @@ refusal_takes bytes a rest fits e =
     let s = step IsRefused refused_bytes refused_of codec_refused (λ x. Ok (answer.Refused x.0, x.1)) bytes (a, rest) fits e in
     taken 11 bytes (answer.Refused s.value) s.rest a rest (record { takes = s.takes; is = s.is; numbered = refl {a = 11} }) s.goes_on
 
+unread_takes : (bytes : List ℕ) (a : Answer) (rest : List ℕ) → AreBytes bytes → unread_of bytes ≡ Ok (a, rest) → TakesAnswer 12 bytes a rest
+unfolding unread_of parts_of IsAnswer number_of
+unread_takes bytes a rest fits e =
+    let s = step IsWide wide_bytes wide_of codec_wide (λ x. wide_of x.1 >>= λ y. Ok (answer.Unread x.0 y.0, y.1)) bytes (a, rest) fits e in
+    let t = step IsWide wide_bytes wide_of codec_wide (λ y. Ok (answer.Unread s.value y.0, y.1)) s.rest (a, rest) s.takes.are_bytes s.goes_on in
+    taken 12 bytes (answer.Unread s.value t.value) t.rest a rest (record { takes = Takes-then bytes (wide_bytes s.value) s.rest (wide_bytes t.value) t.rest s.takes t.takes; is = (s.is, t.is); numbered = refl {a = 12} }) t.goes_on
+
 done_takes : (bytes : List ℕ) (a : Answer) (rest : List ℕ) → AreBytes bytes → done {A = Answer × List ℕ} (answer.Done, bytes) ≡ done (a, rest) → TakesAnswer 0 bytes a rest
 unfolding parts_of IsAnswer number_of
 done_takes bytes a rest fits e = taken 0 bytes answer.Done bytes a rest (record { takes = record { parts = refl; are_bytes = fits }; is = tt; numbered = refl {a = 0} }) e
 
--- no answer has a number above 11
-answer_by-other : (number : ℕ) (bytes : List ℕ) → 11 < number → answer_by number bytes ≡ Err (misread UnknownAnswer (1 + length bytes))
+-- no answer has a number above 12
+answer_by-other : (number : ℕ) (bytes : List ℕ) → 12 < number → answer_by number bytes ≡ Err (misread UnknownAnswer (1 + length bytes))
 unfolding answer_by
 answer_by-other number bytes lt =
     rw (
@@ -281,6 +288,7 @@ answer_by-other number bytes lt =
       ne_eqb number 9 (λ e. omega arith),
       ne_eqb number 10 (λ e. omega arith),
       ne_eqb number 11 (λ e. omega arith),
+      ne_eqb number 12 (λ e. omega arith),
     ) refl
 
 numbered_takes : (number : ℕ) (bytes : List ℕ) (a : Answer) (rest : List ℕ) → AreBytes bytes → answer_by number bytes ≡ Ok (a, rest) → TakesAnswer number bytes a rest
@@ -297,8 +305,9 @@ numbered_takes (suc (suc (suc (suc (suc (suc (suc (suc zero)))))))) bytes a rest
 numbered_takes (suc (suc (suc (suc (suc (suc (suc (suc (suc zero))))))))) bytes a rest fits e = said_takes bytes a rest fits e
 numbered_takes (suc (suc (suc (suc (suc (suc (suc (suc (suc (suc zero)))))))))) bytes a rest fits e = limits_take bytes a rest fits e
 numbered_takes (suc (suc (suc (suc (suc (suc (suc (suc (suc (suc (suc zero))))))))))) bytes a rest fits e = refusal_takes bytes a rest fits e
-numbered_takes (suc (suc (suc (suc (suc (suc (suc (suc (suc (suc (suc (suc number)))))))))))) bytes a rest fits e =
-    absurd (not_value (a, rest) (misread UnknownAnswer (1 + length bytes)) (sym (answer_by-other (suc (suc (suc (suc (suc (suc (suc (suc (suc (suc (suc (suc number)))))))))))) bytes (omega arith)) ∙ e))
+numbered_takes (suc (suc (suc (suc (suc (suc (suc (suc (suc (suc (suc (suc zero)))))))))))) bytes a rest fits e = unread_takes bytes a rest fits e
+numbered_takes (suc (suc (suc (suc (suc (suc (suc (suc (suc (suc (suc (suc (suc number))))))))))))) bytes a rest fits e =
+    absurd (not_value (a, rest) (misread UnknownAnswer (1 + length bytes)) (sym (answer_by-other (suc (suc (suc (suc (suc (suc (suc (suc (suc (suc (suc (suc (suc number))))))))))))) bytes (omega arith)) ∙ e))
 
 -- the answer at the front is one, and is spelled so
 front_takes : (bytes : List ℕ) (a : Answer) (rest : List ℕ) → AreBytes bytes → answer_at bytes ≡ Ok (a, rest) → IsAnswer a × (bytes ≡ answer_bytes a ++ rest)
@@ -320,7 +329,7 @@ whole_takes bytes a fits e =
 -- ---- what is spelled so is read
 
 answer_again : (a : Answer) (rest : List ℕ) → IsAnswer a → answer_at (answer_bytes a ++ rest) ≡ Ok (a, rest)
-unfolding answer_at answer_by number_of parts_of IsAnswer names_of schema_of found_row_of rows_of count_of reported_of conflicts_of changeset_of said_of limits_of refusal_of
+unfolding answer_at answer_by number_of parts_of IsAnswer names_of schema_of found_row_of rows_of count_of reported_of conflicts_of changeset_of said_of limits_of refusal_of unread_of
 answer_again answer.Done rest is = refl
 answer_again (answer.Names names) rest is = rw (codec_names.again names rest is) refl
 answer_again (answer.Schema columns) rest is = rw (codec_columns.again columns rest is) refl
@@ -333,6 +342,7 @@ answer_again (answer.Changeset file) rest is = rw (codec_counted.again file rest
 answer_again (answer.Flag flag) rest is = rw (codec_flag.again flag rest tt) refl
 answer_again (answer.Limits version most) rest is = rw (append_assoc (wide_bytes version) (wide_bytes most) rest, codec_wide.again version (wide_bytes most ++ rest) is.0, codec_wide.again most rest is.1) refl
 answer_again (answer.Refused refused) rest is = rw (refused_again refused rest is) refl
+answer_again (answer.Unread code offset) rest is = rw (append_assoc (wide_bytes code) (wide_bytes offset) rest, codec_wide.again code (wide_bytes offset ++ rest) is.0, codec_wide.again offset rest is.1) refl
 
 pub whole_again : (a : Answer) → IsAnswer a → whole_answer (answer_bytes a) ≡ Ok a
 unfolding whole_answer
@@ -376,3 +386,4 @@ answer_counts (answer.Changeset file) is = tt
 answer_counts (answer.Flag flag) is = tt
 answer_counts (answer.Limits version most) is = tt
 answer_counts (answer.Refused refused) is = few_option refused.key is.key
+answer_counts (answer.Unread code offset) is = tt

@@ -44,8 +44,8 @@ refused_of bytes = do
   table ← option_of text_of code.1
   column ← option_of text_of table.1
   key ← option_of row_of column.1
-  place ← option_of wide_of key.1
-  Ok (record { code = code.0; table = table.0; column = column.0; key = key.0; place = place.0 }, place.1)
+  detail ← option_of wide_of key.1
+  Ok (record { code = code.0; table = table.0; column = column.0; key = key.0; detail = detail.0 }, detail.1)
 
 -- the parts of an answer, after its number
 unfoldable pub names_of : List ℕ → Result (Answer × List ℕ) Misread
@@ -105,6 +105,12 @@ refusal_of bytes = do
   refused ← refused_of bytes
   Ok (answer.Refused refused.0, refused.1)
 
+unfoldable pub unread_of : List ℕ → Result (Answer × List ℕ) Misread
+unread_of bytes = do
+  code ← wide_of bytes
+  offset ← wide_of code.1
+  Ok (answer.Unread code.0 offset.0, offset.1)
+
 -- the answer with a number
 unfoldable pub answer_by : ℕ → List ℕ → Result (Answer × List ℕ) Misread
 answer_by number bytes =
@@ -120,6 +126,7 @@ answer_by number bytes =
     else if number == 9 then said_of bytes
     else if number == 10 then limits_of bytes
     else if number == 11 then refusal_of bytes
+    else if number == 12 then unread_of bytes
     else Err (misread UnknownAnswer (1 + length bytes))
 
 -- the answer at the front

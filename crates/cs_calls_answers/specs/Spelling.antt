@@ -67,14 +67,14 @@ pub record ReportCounts (report : Reported) : Type 0 where
 unfoldable pub refused_bytes : Refused → List ℕ
 refused_bytes refused =
     wide_bytes refused.code ++ option_bytes counted refused.table ++ option_bytes counted refused.column
-    ++ option_bytes row_bytes refused.key ++ option_bytes wide_bytes refused.place
+    ++ option_bytes row_bytes refused.key ++ option_bytes wide_bytes refused.detail
 
 pub record IsRefused (refused : Refused) : Type 0 where
   pub code : IsWide refused.code
   pub table : IfSome refused.table IsText
   pub column : IfSome refused.column IsText
   pub key : IfSome refused.key IsRowList
-  pub place : IfSome refused.place IsWide
+  pub detail : IfSome refused.detail IsWide
 
 abbrev pub RefusedCounts : Refused → Type 0
 RefusedCounts refused = IfSome refused.key (λ key. length key ≤ MAX_CONTENT_LEN)
@@ -95,6 +95,7 @@ number_of (answer.Changeset file) = 8
 number_of (answer.Flag flag) = 9
 number_of (answer.Limits version bytes) = 10
 number_of (answer.Refused refused) = 11
+number_of (answer.Unread code offset) = 12
 
 -- the parts of an answer
 unfoldable pub parts_of : Answer → List ℕ
@@ -110,6 +111,7 @@ parts_of (answer.Changeset file) = counted file
 parts_of (answer.Flag flag) = flag_bytes flag
 parts_of (answer.Limits version bytes) = wide_bytes version ++ wide_bytes bytes
 parts_of (answer.Refused refused) = refused_bytes refused
+parts_of (answer.Unread code offset) = wide_bytes code ++ wide_bytes offset
 
 -- the number of an answer, and its parts
 abbrev pub answer_bytes : Answer → List ℕ
@@ -129,6 +131,7 @@ IsAnswer (answer.Changeset file) = IsFile file
 IsAnswer (answer.Flag flag) = Unit {0}
 IsAnswer (answer.Limits version bytes) = IsWide version × IsWide bytes
 IsAnswer (answer.Refused refused) = IsRefused refused
+IsAnswer (answer.Unread code offset) = IsWide code × IsWide offset
 
 -- the rows and lists of an answer have at most 2147483647 parts
 unfoldable pub HasCounts : Answer → Type 0
@@ -144,3 +147,4 @@ HasCounts (answer.Changeset file) = Unit {0}
 HasCounts (answer.Flag flag) = Unit {0}
 HasCounts (answer.Limits version bytes) = Unit {0}
 HasCounts (answer.Refused refused) = RefusedCounts refused
+HasCounts (answer.Unread code offset) = Unit {0}

@@ -17,17 +17,20 @@ pub struct Reported {
     pub conflicts: MetConflicts,
 }
 
-/// Why a call is refused. What is not meant is not there.
+/// Why a call is refused, as `docs/CALLS.md` has it. The parts that do not come with the code are not there.
 #[derive(Drop)]
 pub struct Refused {
     /// The number of the error, as in `docs/ERRORS.md`.
     pub code: u64,
+    /// The name of the table.
     pub table: Option<Text>,
+    /// The name of the column.
     pub column: Option<Text>,
     /// The values of the key columns.
     pub key: Option<Row>,
-    /// A byte offset, or the index of a table of a changeset.
-    pub place: Option<u64>,
+    /// By the code: a byte offset in the changeset file, the index of one of its tables, the kind of a conflict, or why
+    /// the database refused, both by SQLite's numbers.
+    pub detail: Option<u64>,
 }
 
 /// What a store answers to a call.
@@ -57,4 +60,6 @@ pub enum Answer {
     Limits { version: u64, bytes: u64 },
     /// The call is refused.
     Refused(Refused),
+    /// The bytes are no call: the number of the fault, and its byte offset in the call.
+    Unread { code: u64, offset: u64 },
 }

@@ -4,7 +4,7 @@ ghost use Rattle.cs_calls_parts.specs.Reading.{Gives};
 ghost use Rattle.cs_calls_answers.specs.declared.answer.Answer.{Answer as AnswerData};
 ghost use Rattle.cs_calls_answers.specs.Spelling.{IsAnswer, HasCounts, answer_bytes};
 ghost use Rattle.cs_calls_answers.specs.Reading.{report_of, refused_of, names_of, schema_of, found_row_of, rows_of, count_of};
-ghost use Rattle.cs_calls_answers.specs.Reading.{reported_of, conflicts_of, changeset_of, said_of, limits_of, refusal_of};
+ghost use Rattle.cs_calls_answers.specs.Reading.{reported_of, conflicts_of, changeset_of, said_of, limits_of, refusal_of, unread_of};
 ghost use Rattle.cs_calls_answers.specs.Reading.{answer_by, answer_at, whole_answer, answer_in};
 
 use crate::answer::{Answer, Refused, Reported};
@@ -76,6 +76,7 @@ fn read_by(alloc: Global, number: u8, bytes: &[u8]) -> Result<(Answer, &[u8]), U
         9 => read_said(bytes),
         10 => read_limits(bytes),
         11 => read_refusal(alloc, bytes),
+        12 => read_unread(bytes),
         _ => refuse(CallFaultKind::UnknownAnswer, 1 + bytes.len()),
     }
 }
@@ -200,13 +201,13 @@ fn read_refused(alloc: Global, bytes: &[u8]) -> Result<(Refused, &[u8]), Unread>
     let (table, rest) = read_option(alloc, rest)?;
     let (column, rest) = read_option(alloc, rest)?;
     let (key, rest) = read_option(alloc, rest)?;
-    let (place, rest) = read_option(alloc, rest)?;
+    let (detail, rest) = read_option(alloc, rest)?;
     let refused = Refused {
         code,
         table,
         column,
         key,
-        place,
+        detail,
     };
     Ok((refused, rest))
 }
@@ -218,4 +219,14 @@ fn read_refusal(alloc: Global, bytes: &[u8]) -> Result<(Answer, &[u8]), Unread>
 {
     let (refused, rest) = read_refused(alloc, bytes)?;
     Ok((Answer::Refused(refused), rest))
+}
+
+/// Reads why bytes are no call.
+#[tactic(auto, unfolding(crate::specs::Reading::unread_of))]
+fn read_unread(bytes: &[u8]) -> Result<(Answer, &[u8]), Unread>
+    ensures { Gives (λ r. (r.0, r.1.now)) result (unread_of bytes.now) }
+{
+    let (code, rest) = read_number(bytes)?;
+    let (offset, rest) = read_number(rest)?;
+    Ok((Answer::Unread { code, offset }, rest))
 }

@@ -67,7 +67,7 @@ fn append_refused(out: &mut Vec<u8>, refused: &Refused) -> Result<(), NoMemory>
     write_option(out, &refused.table)?;
     write_option(out, &refused.column)?;
     write_option(out, &refused.key)?;
-    write_option(out, &refused.place)
+    write_option(out, &refused.detail)
 }
 
 /// Returns the number of an answer, which its bytes begin with.
@@ -88,6 +88,7 @@ fn number(answer: &Answer) -> u8
         Answer::Flag(_) => 9,
         Answer::Limits { .. } => 10,
         Answer::Refused(_) => 11,
+        Answer::Unread { .. } => 12,
     }
 }
 
@@ -124,5 +125,6 @@ fn append_parts(out: &mut Vec<u8>, answer: &Answer) -> Result<(), NoMemory>
         Answer::Flag(flag) => write_flag(out, *flag),
         Answer::Limits { version, bytes } => write_numbers(out, *version, *bytes),
         Answer::Refused(refused) => append_refused(out, refused),
+        Answer::Unread { code, offset } => write_numbers(out, *code, *offset),
     }
 }

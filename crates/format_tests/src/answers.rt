@@ -30,6 +30,10 @@ const ANSWERS: &[(&str, &[u8])] = &[
         "refused",
         b"\x0b\x00\x00\x00\x00\x00\x00\x00\x28\x00\x01\x01a\x00\x01\x00\x00\x00\x00\x00\x00\x00\x02",
     ),
+    (
+        "unread",
+        b"\x0c\x00\x00\x00\x00\x00\x00\x00\x5c\x00\x00\x00\x00\x00\x00\x00\x03",
+    ),
 ];
 
 /// Three entries were carried out, one was ignored, z was skipped, and of t the row of the key 'x' was replaced.
@@ -55,6 +59,7 @@ fn name_of(answer: &Answer) -> &'static str {
         Answer::Flag(_) => "yes or no",
         Answer::Limits { .. } => "limits",
         Answer::Refused(_) => "refused",
+        Answer::Unread { .. } => "unread",
     }
 }
 
@@ -91,8 +96,9 @@ fn has_its_parts(answer: &Answer) -> bool {
         Answer::Limits { version, bytes } => *version == 1 && *bytes == 67_108_864,
         Answer::Refused(refused) => {
             (refused.code == 33 && refused.table.is_some() && refused.key.is_some())
-                || (refused.code == 40 && refused.column.is_some() && refused.place == Some(2))
+                || (refused.code == 40 && refused.column.is_some() && refused.detail == Some(2))
         }
+        Answer::Unread { code, offset } => *code == 92 && *offset == 3,
         _ => true,
     }
 }
@@ -108,7 +114,7 @@ fn reads_the_parts_of_answers_in_their_order(rt: HostRuntime) {
 /// Bytes that are no answer, and the code and the place of their fault.
 const FAULTS: &[(&[u8], u8, usize)] = &[
     (b"", 1, 0),
-    (b"\x0c", 93, 0),
+    (b"\x0d", 93, 0),
     (b"\x00\x00", 92, 1),
     (b"\x05\x00\x00", 1, 3),
     (
