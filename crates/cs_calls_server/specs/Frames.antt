@@ -40,7 +40,8 @@ Stopped remaining OutputFault input = ⊥
 Stopped remaining Full input = ⊥
 
 -- these bytes were read, and then no more
-pub record Stops {R : Type 0} (remaining : R → Option (List ℕ)) (ending : Ending) (old new : Told R) (bytes : List ℕ) : Type 0 where
+pub record Stops {R : Type 0} (remaining : R → Option (List ℕ)) (ending : Ending) (old new : Told R)
+    (bytes : List ℕ) : Type 0 where
   pub consumed : Consumes (known remaining old) (known remaining new) bytes
   pub stopped : Stopped remaining ending new
   pub none : ending ≡ Done → bytes ≡ []

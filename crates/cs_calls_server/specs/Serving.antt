@@ -30,14 +30,16 @@ abbrev pub sent_for : List ℕ → List ℕ
 sent_for answer = if nat_lt FRAME_LIMIT (length answer) then too_long else answer
 
 -- What the call in a frame is answered. A call that is too long, and one for which memory runs out, is not carried out.
-pub data FrameGives {S : Type 0} (gives : S → List ℕ → List ℕ → S → Type 0) (old : S) (call : List ℕ) : List ℕ → S → Type 0 where
+pub data FrameGives {S : Type 0} (gives : S → List ℕ → List ℕ → S → Type 0) (old : S) (call : List ℕ) :
+    List ℕ → S → Type 0 where
   answered : (answer : List ℕ) (new : S) → length call ≤ CALL_LIMIT → gives old call answer new
       → FrameGives gives old call (sent_for answer) new
   not_taken : CALL_LIMIT < length call → length call ≤ FRAME_LIMIT → FrameGives gives old call too_long old
   lost : length call ≤ CALL_LIMIT → FrameGives gives old call no_memory old
 
 -- the answers to calls in turn, and the state after them
-abbrev pub FramesGive : {S : Type 0} → (S → List ℕ → List ℕ → S → Type 0) → S → List (List ℕ) → List (List ℕ) → S → Type 0
+abbrev pub FramesGive : {S : Type 0} → (S → List ℕ → List ℕ → S → Type 0) → S → List (List ℕ) → List (List ℕ) → S
+    → Type 0
 FramesGive gives old [] [] new = new ≡ old
 FramesGive {S} gives old (call ∷ calls) (answer ∷ answers) new =
     (mid : S) × FrameGives gives old call answer mid × FramesGive gives mid calls answers new
@@ -64,7 +66,8 @@ Fits sent.TooLong = Unit {0}
 Fits sent.NoMemory = Unit {0}
 
 -- this is sent for a call
-pub record Responds {S : Type 0} (gives : S → List ℕ → List ℕ → S → Type 0) (old : S) (call : List ℕ) (sent : Sent) (new : S) : Type 0 where
+pub record Responds {S : Type 0} (gives : S → List ℕ → List ℕ → S → Type 0) (old : S) (call : List ℕ)
+    (sent : Sent) (new : S) : Type 0 where
   pub given : FrameGives gives old call (sent_bytes sent) new
   pub fits : Fits sent
 
@@ -75,7 +78,8 @@ abbrev pub AreWritten : {W : Type 0} → (W → Option (List ℕ)) → Told W �
 AreWritten contents before after answers = Appends (known contents before) (known contents after) (frames_of answers)
 
 -- a write failed: those of all answers but the last, and a front of that of the last
-pub record AreCut {W : Type 0} (contents : W → Option (List ℕ)) (before after : Told W) (answers : List (List ℕ)) : Type 0 where
+pub record AreCut {W : Type 0} (contents : W → Option (List ℕ)) (before after : Told W)
+    (answers : List (List ℕ)) : Type 0 where
   pub earlier : List (List ℕ)
   pub cut : List ℕ
   pub all : answers ≡ earlier ++ cut ∷ []
