@@ -15,7 +15,8 @@ use Rattle.cs_calls_server.specs.Frames.{FRAME_LIMIT, CALL_LIMIT, frame_bytes, f
 
 -- the bytes of a refusal that has a number only
 abbrev pub refusal_bytes : ℕ → List ℕ
-refusal_bytes code = answer_bytes (Refused (record { code = code; table = None; column = None; key = None; detail = None }))
+refusal_bytes code =
+    answer_bytes (Refused (record { code = code; table = None; column = None; key = None; detail = None }))
 
 -- those of 60 NoMemory
 abbrev pub no_memory : List ℕ

@@ -112,8 +112,8 @@ fn exchange<A: Answering, R: Read, W: Write>(
 }
 
 /// Answers calls: reads frames, one after another, and writes the frame of each answer before the next one is read. A
-/// frame is four bytes of length, the most significant first, and that many bytes. The bytes of a length are read one at
-/// a time, so a buffered reader is faster; the writer should not hold bytes back.
+/// frame is four bytes of length, the most significant first, and that many bytes. The bytes of a length are read one
+/// at a time, so a buffered reader is faster; the writer should not hold bytes back.
 ///
 /// A call of more than 67108864 bytes is skipped, and refused with 94 FrameTooLong. So is answered one whose answer has
 /// more than 4294967295, which is carried out. If memory runs out for the bytes of a call, it is skipped, and refused
