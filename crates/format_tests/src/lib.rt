@@ -2,8 +2,8 @@
 //!
 //! `values` has numbers, texts, rows and keys, `entries` the items of a file and net changes, `files` printed texts,
 //! `faults` and `refusals` the numbers, names and texts of faults, `requests` and `answers` calls of stores and what
-//! they are answered, `serving` their frames, and `calling` the callers that `CALLING.md` of `cs_wire` and of `cs_group`
-//! shows. No crate with SQL is linked.
+//! they are answered, `serving` their frames, and `calling` the callers that `CALLING.md` of `cs_wire` and of
+//! `cs_group` shows. No crate with SQL is linked.
 #![tactic(auto)]
 
 #[cfg(test)]
