@@ -1,3 +1,4 @@
+pub mod Refusals
 pub mod Spelling
 pub mod Reading
 pub mod Laws

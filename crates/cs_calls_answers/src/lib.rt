@@ -6,8 +6,8 @@
 //! answer_write(&mut out, &answer)?;
 //! ```
 //!
-//! `answer` has the answers, `conflicts` the conflicts in them, `lists` their lists, `reading` reads answers, and
-//! `writing` writes them. Their parts are those of [`cs_calls_parts`].
+//! `answer` has the answers, `conflicts` the conflicts in them, `lists` their lists, and `refusal` refusals that name
+//! nothing. `reading` reads answers, and `writing` writes them. Their parts are those of [`cs_calls_parts`].
 #![tactic(auto)]
 
 mod answer;
@@ -15,6 +15,7 @@ mod conflicts;
 mod laws;
 mod lists;
 mod reading;
+mod refusal;
 mod writing;
 
 pub use answer::{Answer, Refused, Reported};

@@ -1,10 +1,11 @@
 -- Calls that are answered in turn. What a call is answered is a relation `gives` from a state and the bytes of the call
 -- to those of the answer and the next state.
 use Rattle.std.specs.Prelude.{◌≡◌, ◌≢◌, ℕ, ◌<◌, ◌≤◌, nat_lt, if◌then◌else◌, IsTrue, List, [], ◌∷◌, ◌++◌, length}
-use Rattle.std.specs.Prelude.{Option, None}
+use Rattle.std.specs.Prelude.{Option}
 use Rattle.std.specs.Io.KnownBytes.{Appends, Consumes, IsAtEnd}
 use Rattle.cs_file_texts.specs.declared.told.Told.{Told}
 use Rattle.cs_file_texts.specs.Told.{has_failed, known}
+use Rattle.cs_calls_answers.specs.Refusals.{plain_refusal}
 use Rattle.cs_calls_answers.specs.Spelling.{answer_bytes}
 use Rattle.cs_calls_answers.specs.declared.answer.Answer.TheVariants.{Refused}
 use Rattle.cs_calls_server.specs.declared.frames.Ending.{Ending}
@@ -13,10 +14,9 @@ use Rattle.cs_calls_server.specs.declared.serving.Sent.{Sent}
 use Rattle.cs_calls_server.specs.declared.serving.Sent.TheVariants as sent
 use Rattle.cs_calls_server.specs.Frames.{FRAME_LIMIT, CALL_LIMIT, frame_bytes, frames_of, IsTorn}
 
--- the bytes of a refusal that has a number only
+-- the bytes of a refusal that names nothing
 abbrev pub refusal_bytes : ℕ → List ℕ
-refusal_bytes code =
-    answer_bytes (Refused (record { code = code; table = None; column = None; key = None; detail = None }))
+refusal_bytes code = answer_bytes (Refused (plain_refusal code))
 
 -- those of 60 NoMemory
 abbrev pub no_memory : List ℕ
