@@ -1,0 +1,5 @@
+mod ColumnLemmas
+mod KeyLemmas
+mod NameLemmas
+mod PageLemmas
+mod RefusalLemmas

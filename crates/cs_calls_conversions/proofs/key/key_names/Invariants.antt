@@ -1,0 +1,7 @@
+use Rattle.std.proofs.Common.{◌≡◌, take}
+use Rattle.cs_value.specs.Key.{key_columns}
+use Rattle.cs_calls_conversions.proofs.key.key_names.Given as goal
+
+-- those of the columns so far
+abbrev pub invariant-loop-column : goal.invariant-loop-column
+invariant-loop-column l = l.names.items ≡ key_columns l.schema.flags (take l.column l.schema.columns)

@@ -1,0 +1,4 @@
+pub mod Keys
+pub mod Columns
+pub mod Pages
+pub mod Refusals

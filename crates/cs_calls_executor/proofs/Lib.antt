@@ -1,0 +1,5 @@
+mod EditLemmas
+mod KeyLemmas
+mod ReadLemmas
+mod RefusalLemmas
+mod RefusedEdits

@@ -1,0 +1,40 @@
+-- `reading::read_row`: there is no such table, the values are those of no key, or the row of their key is read.
+use Rattle.std.proofs.Common.{Ok, Err, sym, ◌∙◌}
+use Rattle.std.proofs.lemmas.Result.{err_from_is_err_and}
+use Rattle.sqlite.specs.Held.{state}
+use Rattle.cs_value.specs.State.{row_at}
+use Rattle.cs_calls_executor.specs.TableCalls.{on_table, with_key, table_row}
+use Rattle.cs_calls_executor.proofs.KeyLemmas.{key_refused, key_named}
+use Rattle.cs_calls_executor.proofs.ReadLemmas.{reads_then, reads_on, reads_refused, schema_found, schema_missing}
+use Rattle.cs_calls_executor.proofs.reading.read_row.Goals as goal
+
+pub returns-in_err-schema : goal.returns-in_err-schema
+returns-in_err-schema g c =
+    let table = c.args.table.now in
+    let values = c.args.key.now in
+    let why = c.in_err-schema.field-0.0 in
+    let p = err_from_is_err_and c.from_residual.result c.from_residual.ensures.1 in
+    rw (p.1, p.2) (reads_refused (λ tables. on_table tables table (λ s. Ok s)) (λ tables. table_row tables table values) (state g.S.Store c.args.transaction.now) (state g.S.Store c.find_schema.new.transaction) why
+    (λ tables missing. schema_missing tables table why (λ s. s) (λ s. with_key table s values (λ k. Ok (row_at tables table k))) missing) c.in_err-schema.ensures)
+
+pub returns-in_err-key : goal.returns-in_err-key
+returns-in_err-key g c =
+    let table = c.args.table.now in
+    let values = c.args.key.now in
+    let why = c.in_err-key.field-0.0 in
+    let p = err_from_is_err_and c.from_residual-in_err-key.result c.from_residual-in_err-key.ensures.1 in
+    rw (p.1, p.2) (reads_on (λ tables. on_table tables table (λ s. Ok s)) (λ tables. table_row tables table values) (state g.S.Store c.args.transaction.now) (state g.S.Store c.find_schema.new.transaction) c.in_ok-schema.schema (Err why)
+    (λ tables found. key_refused tables table c.in_ok-schema.schema values (λ s k. Ok (row_at tables table k)) found why c.in_err-key.ensures.refused) c.in_ok-schema.ensures)
+
+pub returns : goal.returns
+returns g c =
+    let table = c.args.table.now in
+    let values = c.args.key.now in
+    let schema = c.in_ok-schema.schema in
+    let key = c.in_ok-key.key in
+    reads_then (λ tables. on_table tables table (λ s. Ok s)) (λ tables. table_row tables table values) (λ tables. on_table tables table (λ s. Ok (row_at tables table key)))
+    (state g.S.Store c.args.transaction.now) (state g.S.Store c.find_schema.new.transaction) (state g.S.Store c.find_row.new.transaction) schema c.find_row.result
+    (λ tables found.
+    key_named tables table schema values (λ s k. Ok (row_at tables table k)) found key c.in_ok-key.ensures.named c.in_ok-key.ensures.key
+    ∙ sym (schema_found tables table schema (λ s. Ok (row_at tables table key)) found))
+    c.in_ok-schema.ensures c.find_row.ensures

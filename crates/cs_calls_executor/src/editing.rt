@@ -1,0 +1,121 @@
+//! Calls that edit the rows of tables.
+ghost use Rattle.std.specs.Prelude.{◌≡◌, IfOk, string_bytes};
+ghost use Rattle.sqlite.specs.Held.{state};
+ghost use Rattle.cs_rows.specs.Editing.{edited};
+ghost use Rattle.cs_calls_conversions.specs.Refusals.{of_edit_error};
+ghost use Rattle.cs_calls_executor.specs.Answered.{Edits};
+ghost use Rattle.cs_calls_executor.specs.TableCalls.{edit_outcome, inserts, updates, deletes};
+
+use crate::reading::{find_row, find_schema};
+use cs_calls_answers::Refused;
+use cs_calls_conversions::{edit_refusal, key_of_call};
+use cs_rows::{Edit, Schema};
+use cs_store::Transaction;
+use cs_value::{Key, NoMemory, Row, Text};
+use sqlite::Alter;
+use std::alloc::Global;
+
+/// Carries out an edit of a table. A call names the row of an update or a deletion by the values of its key.
+fn carry_out<S: Alter + Drop>(
+    alloc: Global,
+    transaction: &mut Transaction<S>,
+    table: &Text,
+    schema: &Schema,
+    key: &Row,
+    edit: &Edit,
+) -> Result<(), Refused>
+    ensures { Edits (λ tables. edit_outcome (of_edit_error table.now schema.now key.now edit.now)
+        (edited tables edit.now)) (state S.Store transaction.old) (state S.Store transaction.new) result }
+{
+    let Err(error) = transaction.edit(alloc, edit) else {
+        return Ok(());
+    };
+    Err(edit_refusal(alloc, table, schema, key, edit, error))
+}
+
+/// Returns the name of a table.
+fn name_of(alloc: Global, table: &Text) -> Result<String, NoMemory>
+    ensures { IfOk result (λ name. string_bytes name ≡ table.now) }
+{
+    Ok(String::from_str(alloc, table.as_str())?)
+}
+
+/// Inserts a row. The transaction then has it under its key.
+///
+/// # Errors
+///
+/// In this order: 31 NoTable; 35 RowWidth, 36 NullInKey and 39 NotNull if the row does not fit the table; 33 KeyTaken.
+/// Each has the table, 36 and 39 also the column, and 33 the key. Nothing has changed then.
+///
+/// 38 StoreFault if the database refuses, 60 NoMemory if out of memory, and 37 DamagedStore if the disk does not return
+/// what was written. Nothing has changed then, or the transaction has ended, and the store is as it was when the
+/// transaction began. An edit of a transaction that has ended is always refused.
+pub fn insert<S: Alter + Drop>(
+    alloc: Global,
+    transaction: &mut Transaction<S>,
+    table: &Text,
+    row: Row,
+) -> Result<(), Refused>
+    ensures { Edits (λ tables. inserts tables table.now row)
+        (state S.Store transaction.old) (state S.Store transaction.new) result }
+{
+    transaction.store_law();
+    let schema = find_schema(alloc, transaction, table)?;
+    let no_key = Row::new(Vec::new(alloc));
+    let name = name_of(alloc, table)?;
+    let edit = Edit::Insert { table: name, row };
+    carry_out(alloc, transaction, table, &schema, &no_key, &edit)
+}
+
+/// Puts a row in the place of that of a key. It is then under its own key, and none is under the former one if that is
+/// another.
+///
+/// # Errors
+///
+/// In this order: 31 NoTable; 35 RowWidth and 36 NullInKey if the values are those of no key; these two and 39 NotNull if
+/// the row does not fit the table; 34 NoRow with the values; 33 KeyTaken with the key of the row. The others are as for
+/// [`insert`].
+pub fn update<S: Alter + Drop>(
+    alloc: Global,
+    transaction: &mut Transaction<S>,
+    table: &Text,
+    values: &Row,
+    row: Row,
+) -> Result<(), Refused>
+    ensures { Edits (λ tables. updates tables table.now values.now row)
+        (state S.Store transaction.old) (state S.Store transaction.new) result }
+{
+    transaction.store_law();
+    let schema = find_schema(alloc, transaction, table)?;
+    let key = key_of_call(alloc, table, &schema, values)?;
+    let name = name_of(alloc, table)?;
+    let edit = Edit::Update {
+        table: name,
+        key,
+        row,
+    };
+    carry_out(alloc, transaction, table, &schema, values, &edit)
+}
+
+/// Removes the row of a key. No row then has the key.
+///
+/// # Errors
+///
+/// In this order: 31 NoTable; 35 RowWidth and 36 NullInKey if the values are those of no key; 34 NoRow with the values.
+/// The others are as for [`insert`].
+pub fn delete<S: Alter + Drop>(
+    alloc: Global,
+    transaction: &mut Transaction<S>,
+    table: &Text,
+    values: &Row,
+) -> Result<(), Refused>
+    ensures { Edits (λ tables. deletes tables table.now values.now)
+        (state S.Store transaction.old) (state S.Store transaction.new) result }
+{
+    transaction.store_law();
+    let schema = find_schema(alloc, transaction, table)?;
+    let key = key_of_call(alloc, table, &schema, values)?;
+    let name = name_of(alloc, table)?;
+    let edit = Edit::Delete { table: name, key };
+    carry_out(alloc, transaction, table, &schema, values, &edit)
+}

@@ -1,0 +1,162 @@
+//! Calls that read tables.
+ghost use Rattle.std.specs.Prelude.{◌≡◌, map as map_list, Ok, Some, None, option_map, length};
+ghost use Rattle.std.specs.FinMap as map;
+ghost use Rattle.sqlite.specs.Held.{state};
+ghost use Rattle.cs_value.specs.State.{row_at, rows_at};
+ghost use Rattle.cs_calls_executor.specs.Answered.{Reads};
+ghost use Rattle.cs_calls_executor.specs.TableCalls.{on_table, table_columns, table_row, table_count, table_page, page_at};
+
+use cs_calls_answers::{Refused, RowList};
+use cs_calls_conversions::{
+    Page, columns_of, key_of_call, page_of, read_refusal, store_refusal, table_refusal,
+};
+use cs_calls_parts::Columns;
+use cs_rows::Schema;
+use cs_store::Transaction;
+use cs_value::{Key, Row, Text};
+use sqlite::Alter;
+use std::alloc::Global;
+
+/// Returns the schema of a table.
+pub(crate) fn find_schema<S: Alter>(
+    alloc: Global,
+    transaction: &mut Transaction<S>,
+    table: &Text,
+) -> Result<Schema, Refused>
+    ensures { Reads (λ tables. on_table tables table.now (λ schema. Ok schema))
+        (state S.Store transaction.old) (state S.Store transaction.new) result }
+{
+    match transaction.schema(alloc, table.as_str()) {
+        Ok(Some(schema)) => Ok(schema),
+        Ok(None) => Err(table_refusal(alloc, 31, table)),
+        Err(error) => Err(store_refusal(error)),
+    }
+}
+
+/// Returns the row of a table under a key, if there is one.
+pub(crate) fn find_row<S: Alter>(
+    alloc: Global,
+    transaction: &mut Transaction<S>,
+    table: &Text,
+    key: &Key,
+) -> Result<Option<Row>, Refused>
+    ensures { Reads (λ tables. on_table tables table.now (λ _. Ok (row_at tables table.now key.now)))
+        (state S.Store transaction.old) (state S.Store transaction.new) result }
+{
+    match transaction.get(alloc, table.as_str(), key) {
+        Ok(row) => Ok(row),
+        Err(error) => Err(read_refusal(alloc, table, error)),
+    }
+}
+
+/// Returns the rows of a table, in the order of the bytes of their keys.
+fn find_rows<S: Alter>(
+    alloc: Global,
+    transaction: &mut Transaction<S>,
+    table: &Text,
+) -> Result<RowList, Refused>
+    ensures { Reads (λ tables. on_table tables table.now (λ _. Ok (map.values (rows_at tables table.now))))
+        (state S.Store transaction.old) (state S.Store transaction.new) result }
+{
+    match transaction.rows(alloc, table.as_str()) {
+        Ok(rows) => Ok(RowList::new(rows)),
+        Err(error) => Err(read_refusal(alloc, table, error)),
+    }
+}
+
+/// Returns the columns of a table. Columns of the key are marked as refusing NULL too.
+///
+/// # Errors
+///
+/// 31 NoTable with the table. 38 StoreFault if the database refuses, 60 NoMemory if out of memory, and 37 DamagedStore if
+/// the disk does not return what was written. Nothing has changed then, or the transaction has ended. In one that has
+/// ended, reads show the store as it was when the transaction began.
+pub fn read_columns<S: Alter>(
+    alloc: Global,
+    transaction: &mut Transaction<S>,
+    table: &Text,
+) -> Result<Columns, Refused>
+    ensures { Reads (λ tables. table_columns tables table.now)
+        (state S.Store transaction.old) (state S.Store transaction.new) result }
+{
+    let schema = find_schema(alloc, transaction, table)?;
+    Ok(columns_of(alloc, &schema)?)
+}
+
+/// Returns the row of a key, if there is one.
+///
+/// # Errors
+///
+/// In this order: 31 NoTable; 35 RowWidth if there are more or fewer values than key columns; 36 NullInKey if one is NULL.
+/// Each has the table, and 36 also the column. 37, 38 and 60 are as for [`read_columns`].
+pub fn read_row<S: Alter>(
+    alloc: Global,
+    transaction: &mut Transaction<S>,
+    table: &Text,
+    key: &Row,
+) -> Result<Option<Row>, Refused>
+    ensures { Reads (λ tables. table_row tables table.now key.now)
+        (state S.Store transaction.old) (state S.Store transaction.new) result }
+{
+    let schema = find_schema(alloc, transaction, table)?;
+    let key = key_of_call(alloc, table, &schema, key)?;
+    find_row(alloc, transaction, table, &key)
+}
+
+/// Returns the number of the rows of a table. It reads all of them into memory.
+///
+/// # Errors
+///
+/// Those of [`read_columns`].
+pub fn count_rows<S: Alter>(
+    alloc: Global,
+    transaction: &mut Transaction<S>,
+    table: &Text,
+) -> Result<u64, Refused>
+    ensures { Reads (λ tables. table_count tables table.now)
+        (state S.Store transaction.old) (state S.Store transaction.new) result }
+{
+    let rows = find_rows(alloc, transaction, table)?;
+    Ok(rows.as_slice().len() as u64)
+}
+
+/// Returns a page of the rows of a table: at most so many, from the first one or from the one after a key.
+fn page_after<S: Alter>(
+    alloc: Global,
+    transaction: &mut Transaction<S>,
+    table: &Text,
+    schema: &Schema,
+    after: Option<&Key>,
+    limit: u32,
+) -> Result<Page, Refused>
+    ensures { Reads (λ tables. on_table tables table.now
+        (λ _. Ok (page_at tables table.now schema.now (option_map (λ k. k.now) after.entry) limit)))
+        (state S.Store transaction.old) (state S.Store transaction.new) result }
+{
+    let rows = find_rows(alloc, transaction, table)?;
+    Ok(page_of(alloc, schema.flags(), rows.as_slice(), after, limit)?)
+}
+
+/// Returns a page of the rows of a table, in the order of the bytes of their keys: at most so many, from the first one or
+/// from the one after a key, which need not be there. It reads all rows of the table into memory.
+///
+/// # Errors
+///
+/// Those of [`read_row`]; 35 and 36 only if there is a key.
+pub fn read_page<S: Alter>(
+    alloc: Global,
+    transaction: &mut Transaction<S>,
+    table: &Text,
+    after: Option<&Row>,
+    limit: u32,
+) -> Result<Page, Refused>
+    ensures { Reads (λ tables. table_page tables table.now (option_map (λ r. r.now) after.entry) limit)
+        (state S.Store transaction.old) (state S.Store transaction.new) result }
+{
+    let schema = find_schema(alloc, transaction, table)?;
+    let Some(values) = after else {
+        return page_after(alloc, transaction, table, &schema, None, limit);
+    };
+    let key = key_of_call(alloc, table, &schema, values)?;
+    page_after(alloc, transaction, table, &schema, Some(&key), limit)
+}
