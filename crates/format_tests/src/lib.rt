@@ -2,14 +2,16 @@
 //!
 //! `values` has numbers, texts, rows and keys, `entries` the items of a file and net changes, `files` printed texts,
 //! `faults` and `refusals` the numbers, names and texts of faults, `requests` and `answers` calls of stores and what
-//! they are answered, `serving` their frames, and `calling` the callers that `CALLING.md` of `cs_wire` and of
-//! `cs_group` shows. No crate with SQL is linked.
+//! they are answered, `conversions` what lies between calls and stores, `serving` frames, and `calling` the callers
+//! that `CALLING.md` of `cs_wire` and of `cs_group` shows. No crate with SQL is linked.
 #![tactic(auto)]
 
 #[cfg(test)]
 mod answers;
 #[cfg(test)]
 mod calling;
+#[cfg(test)]
+mod conversions;
 #[cfg(test)]
 mod entries;
 #[cfg(test)]
