@@ -2,7 +2,9 @@
 
 use cs_calls_answers::Refused;
 use cs_calls_conversions::declaration_of;
-use cs_calls_executor::{count_rows, delete, insert, read_columns, read_page, read_row, update};
+use cs_calls_executor::{
+    count_rows, delete, insert, put, read_columns, read_page, read_row, update,
+};
 use cs_calls_requests::{Call, call_read};
 use cs_store::{Store, Transaction};
 use sqlite::MemStore;
@@ -58,6 +60,7 @@ fn carry_out(
             update(alloc, transaction, &table, &key, row).map(|_| 0)
         }
         Call::Delete { table, key } => delete(alloc, transaction, &table, &key).map(|_| 0),
+        Call::Put { table, row } => put(alloc, transaction, &table, row).map(|_| 0),
         _ => Err(Refused::plain(0)),
     }
 }
@@ -98,7 +101,13 @@ const CALLS: &[(&[u8], Result<u64, u64>)] = &[
     (b"\x04\x01t\x01\x03\x01n", Ok(1)),
     (b"\x09\x01t\x01\x03\x01m", Ok(0)),
     (b"\x09\x01t\x01\x03\x01m", Err(34)),
+    (b"\x0a\x01t\x02\x03\x01n\x03\x01y", Ok(0)),
     (b"\x06\x01t", Ok(1)),
+    (b"\x0a\x01t\x02\x03\x01o\x03\x01y", Ok(0)),
+    (b"\x0a\x01t\x02\x03\x01n\x05", Err(39)),
+    (b"\x0a\x01t\x02\x05\x03\x01y", Err(36)),
+    (b"\x0a\x01t\x01\x03\x01n", Err(35)),
+    (b"\x06\x01t", Ok(2)),
     (b"\x06\x01u", Err(31)),
 ];
 

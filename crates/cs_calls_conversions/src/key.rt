@@ -28,8 +28,13 @@ fn key_len(flags: &[u8]) -> usize
     flags.iter().filter(|flag| **flag != 0).count()
 }
 
-/// Returns the values of the key columns of a row.
-pub(crate) fn key_values(alloc: Global, flags: &[u8], row: &Row) -> Result<Row, NoMemory>
+/// Returns the values of the key columns of a row. There is a flag for each column, and those other than 0 mark the key
+/// columns.
+///
+/// # Errors
+///
+/// `NoMemory` if out of memory.
+pub fn key_values(alloc: Global, flags: &[u8], row: &Row) -> Result<Row, NoMemory>
     ensures { IfOk result (λ key. key ≡ key_columns flags.now row.now) }
 {
     let mut values = Vec::new(alloc);

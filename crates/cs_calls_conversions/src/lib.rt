@@ -16,6 +16,6 @@ mod page;
 mod refusal;
 
 pub use columns::{Declaration, columns_of, declaration_of};
-pub use key::key_of_call;
+pub use key::{key_of_call, key_values};
 pub use page::{Page, page_of};
 pub use refusal::{edit_refusal, read_refusal, store_refusal, table_refusal};

@@ -1,5 +1,6 @@
 mod EditLemmas
 mod KeyLemmas
+mod PutLemmas
 mod ReadLemmas
 mod RefusalLemmas
 mod RefusedEdits

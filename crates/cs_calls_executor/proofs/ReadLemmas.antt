@@ -123,14 +123,18 @@ schema_missing {A} {X} tables table why found next missing = at (schema_at table
     at None is = ap (λ (r : Result A Refused). Err (why_of why r)) is
     at (Some s) is = absurd (true≢false (ap is_ok is))
 
--- what is made of what was found
-pub found_made : {A X : Type 0} (tables : State) (table : List ℕ) (value x : A) (make : A → X) → on_table tables table (λ s. Ok value) ≡ Ok x → Ok (make x) ≡ on_table tables table (λ s. Ok (make value))
+-- what follows from what was found
+pub value_found : {A X : Type 0} (tables : State) (table : List ℕ) (value x : A) (next : A → Result X Refused) → on_table tables table (λ s. Ok value) ≡ Ok x → on_table tables table (λ s. next value) ≡ next x
 unfolding from_ok
-found_made {A} {X} tables table value x make found = at (schema_at tables table) found
+value_found {A} {X} tables table value x next found = at (schema_at tables table) found
   where
-    at : (o : Option SchemaData) → with_schema {X = A} table o (λ s. Ok value) ≡ Ok x → Ok (make x) ≡ with_schema table o (λ s. Ok (make value))
+    at : (o : Option SchemaData) → with_schema {X = A} table o (λ s. Ok value) ≡ Ok x → with_schema table o (λ s. next value) ≡ next x
     at None is = absurd (true≢false (sym (ap is_ok is)))
-    at (Some s) is = sym (ap (λ (r : Result A Refused). Ok (make (from_ok value r))) is)
+    at (Some s) is = ap (λ (r : Result A Refused). next (from_ok value r)) is
+
+-- what is made of it
+pub found_made : {A X : Type 0} (tables : State) (table : List ℕ) (value x : A) (make : A → X) → on_table tables table (λ s. Ok value) ≡ Ok x → Ok (make x) ≡ on_table tables table (λ s. Ok (make value))
+found_made tables table value x make found = sym (value_found tables table value x (λ v. Ok (make v)) found)
 
 -- there is no such table
 pub table_missing : {X : Type 0} (tables : State) (table : List ℕ) (why : Refused) (next : SchemaData → Result X Refused) → schema_at tables table ≡ None → (why ≡ of_table 31 table) ⊎ (why ≡ plain_refusal 60)

@@ -1,10 +1,15 @@
 -- What calls on the tables of a store are answered, and the tables after them, or why they are refused. Tables, rows and
 -- edits are those of SQLite; the calls and their refusals are this project's own.
-use Rattle.std.specs.Prelude.{ℕ, List, length, Option, None, Some, Result, Ok, Err}
+use Rattle.std.specs.Prelude.{ℕ, Bool, true, false, List, length, Option, None, Some, is_some, Result, Ok, Err}
 use Rattle.std.specs.FinMap as map
+use Rattle.std.specs.declared.alloc.Global.{Global}
+use Rattle.std.specs.declared.string.String.{String}
 use Rattle.cs_value.specs.declared.value.OwnedValue.{OwnedValue}
+use Rattle.cs_value.specs.Key.{key_columns, row_key}
 use Rattle.cs_value.specs.Spelling.{row_bytes}
 use Rattle.cs_value.specs.State.{SchemaData, State, schema_at, rows_at, row_at}
+use Rattle.cs_rows.specs.declared.edit.Edit.{Edit}
+use Rattle.cs_rows.specs.declared.edit.Edit.TheVariants.{Insert, Update}
 use Rattle.cs_rows.specs.declared.fault.StoreError.{StoreError}
 use Rattle.cs_rows.specs.Editing.{Edited, inserted, updated, deleted}
 use Rattle.cs_calls_answers.specs.declared.answer.Refused.{Refused}
@@ -84,3 +89,20 @@ abbrev pub deletes : State → List ℕ → List OwnedValue → Result State Ref
 deletes state table values =
     on_table state table (λ schema. with_key table schema values
     (λ key. edit_outcome (of_delete_error table values) (deleted state table key)))
+
+-- the tables after a put: an update if a row has the key, or else an insertion
+abbrev pub put_by : State → List ℕ → SchemaData → List OwnedValue → Bool → Result State Refused
+put_by state table schema row true =
+    edit_outcome (of_update_error table schema (key_columns schema.flags row) row)
+    (updated state table (row_key schema.flags row) row)
+put_by state table schema row false = edit_outcome (of_row_error table schema row) (inserted state table row)
+
+-- a row is put in the place of the one that has its key, or inserted
+abbrev pub puts : State → List ℕ → List OwnedValue → Result State Refused
+puts state table row =
+    on_table state table (λ schema. put_by state table schema row (is_some (row_at state table (row_key schema.flags row))))
+
+-- the edit that puts a row: whether a row has its key comes last
+abbrev pub putting : String Global → List ℕ → List OwnedValue → Bool → Edit
+putting table key row true = Update table key row
+putting table key row false = Insert table row

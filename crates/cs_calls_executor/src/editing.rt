@@ -4,11 +4,12 @@ ghost use Rattle.sqlite.specs.Held.{state};
 ghost use Rattle.cs_rows.specs.Editing.{edited};
 ghost use Rattle.cs_calls_conversions.specs.Refusals.{of_edit_error};
 ghost use Rattle.cs_calls_executor.specs.Answered.{Edits};
-ghost use Rattle.cs_calls_executor.specs.TableCalls.{edit_outcome, inserts, updates, deletes};
+ghost use Rattle.cs_calls_executor.specs.TableCalls.{putting as edit_that_puts};
+ghost use Rattle.cs_calls_executor.specs.TableCalls.{edit_outcome, inserts, updates, deletes, puts};
 
 use crate::reading::{find_row, find_schema};
 use cs_calls_answers::Refused;
-use cs_calls_conversions::{edit_refusal, key_of_call};
+use cs_calls_conversions::{edit_refusal, key_of_call, key_values};
 use cs_rows::{Edit, Schema};
 use cs_store::Transaction;
 use cs_value::{Key, NoMemory, Row, Text};
@@ -118,4 +119,41 @@ pub fn delete<S: Alter + Drop>(
     let name = name_of(alloc, table)?;
     let edit = Edit::Delete { table: name, key };
     carry_out(alloc, transaction, table, &schema, values, &edit)
+}
+
+/// Returns the edit that puts a row into a table: an update, if a row has its key, or else an insertion.
+fn putting(table: String, key: Key, row: Row, is_there: bool) -> Edit
+    ensures { result ≡ edit_that_puts table key row is_there }
+{
+    if is_there {
+        Edit::Update { table, key, row }
+    } else {
+        drop(key);
+        Edit::Insert { table, row }
+    }
+}
+
+/// Puts a row in the place of the one that has its key, or inserts it. The transaction then has it under its key.
+///
+/// # Errors
+///
+/// In this order: 31 NoTable; 35 RowWidth, 36 NullInKey and 39 NotNull if the row does not fit the table. The others are
+/// as for [`insert`].
+pub fn put<S: Alter + Drop>(
+    alloc: Global,
+    transaction: &mut Transaction<S>,
+    table: &Text,
+    row: Row,
+) -> Result<(), Refused>
+    ensures { Edits (λ tables. puts tables table.now row)
+        (state S.Store transaction.old) (state S.Store transaction.new) result }
+{
+    transaction.store_law();
+    let schema = find_schema(alloc, transaction, table)?;
+    let name = name_of(alloc, table)?;
+    let values = key_values(alloc, schema.flags(), &row)?;
+    let key = Key::from_values(alloc, values.values())?;
+    let found = find_row(alloc, transaction, table, &key)?;
+    let edit = putting(name, key, row, found.is_some());
+    carry_out(alloc, transaction, table, &schema, &values, &edit)
 }

@@ -14,5 +14,5 @@ mod editing;
 mod reading;
 
 pub use cs_calls_conversions::Page;
-pub use editing::{delete, insert, update};
+pub use editing::{delete, insert, put, update};
 pub use reading::{count_rows, read_columns, read_page, read_row};
