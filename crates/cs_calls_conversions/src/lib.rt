@@ -1,5 +1,5 @@
-//! What lies between calls and stores: the key that a call names, the columns of tables, pages of rows, and why a call is
-//! refused.
+//! What lies between calls and stores: the key that a call names, the columns of tables, pages of
+//! rows, and why a call is refused.
 //!
 //! ```rust
 //! let key = key_of_call(alloc, &table, &schema, &values)?;

@@ -211,10 +211,11 @@ fn named_edit_refusal(
     }
 }
 
-/// Returns the refusal of an edit, by the error of the store. It has the table, and 34 NoRow also the key that the call
-/// names, 33 KeyTaken the key of the row, 36 NullInKey the first column of the key that has NULL, and 39 NotNull the first
-/// column that has NULL and refuses it. An insertion names no key. 37, 38 and 60 are as [`store_refusal`] has them. It is
-/// 60 NoMemory if memory runs out for a part.
+/// Returns the refusal of an edit, by the error of the store. It has the table, and 34 NoRow also
+/// the key that the call names, 33 KeyTaken the key of the row, 36 NullInKey the first column of
+/// the key that has NULL, and 39 NotNull the first column that has NULL and refuses it. An
+/// insertion names no key. 37, 38 and 60 are as [`store_refusal`] has them. It is 60 NoMemory if
+/// memory runs out for a part.
 pub fn edit_refusal(
     alloc: Global,
     table: &Text,

@@ -73,9 +73,9 @@ pub fn insert<S: Alter + Drop>(
 ///
 /// # Errors
 ///
-/// In this order: 31 NoTable; 35 RowWidth and 36 NullInKey if the values are those of no key; these two and 39 NotNull if
-/// the row does not fit the table; 34 NoRow with the values; 33 KeyTaken with the key of the row. The others are as for
-/// [`insert`].
+/// In this order: 31 NoTable; 35 RowWidth and 36 NullInKey if the values are those of no key; these
+/// two and 39 NotNull if the row does not fit the table; 34 NoRow with the values; 33 KeyTaken with
+/// the key of the row. The others are as for [`insert`].
 pub fn update<S: Alter + Drop>(
     alloc: Global,
     transaction: &mut Transaction<S>,
@@ -137,8 +137,8 @@ fn putting(table: String, key: Key, row: Row, is_there: bool) -> Edit
 ///
 /// # Errors
 ///
-/// In this order: 31 NoTable; 35 RowWidth, 36 NullInKey and 39 NotNull if the row does not fit the table. The others are
-/// as for [`insert`].
+/// In this order: 31 NoTable; 35 RowWidth, 36 NullInKey and 39 NotNull if the row does not fit the
+/// table. The others are as for [`insert`].
 pub fn put<S: Alter + Drop>(
     alloc: Global,
     transaction: &mut Transaction<S>,

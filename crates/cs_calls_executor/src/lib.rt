@@ -6,8 +6,8 @@
 //! let found = read_row(alloc, &mut transaction, &table, &key)?;
 //! ```
 //!
-//! `reading` has the calls that read, and `editing` those that edit rows. Each refusal has the parts that `CALLS` of the
-//! documents lists.
+//! `reading` has the calls that read, and `editing` those that edit rows. Each refusal has the
+//! parts that `CALLS` of the documents lists.
 #![tactic(auto)]
 
 mod editing;

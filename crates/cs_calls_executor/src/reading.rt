@@ -68,9 +68,10 @@ fn find_rows<S: Alter>(
 ///
 /// # Errors
 ///
-/// 31 NoTable with the table. 38 StoreFault if the database refuses, 60 NoMemory if out of memory, and 37 DamagedStore if
-/// the disk does not return what was written. Nothing has changed then, or the transaction has ended. In one that has
-/// ended, reads show the store as it was when the transaction began.
+/// 31 NoTable with the table. 38 StoreFault if the database refuses, 60 NoMemory if out of memory,
+/// and 37 DamagedStore if the disk does not return what was written. Nothing has changed then, or
+/// the transaction has ended. In one that has ended, reads show the store as it was when the
+/// transaction began.
 pub fn read_columns<S: Alter>(
     alloc: Global,
     transaction: &mut Transaction<S>,
@@ -87,8 +88,9 @@ pub fn read_columns<S: Alter>(
 ///
 /// # Errors
 ///
-/// In this order: 31 NoTable; 35 RowWidth if there are more or fewer values than key columns; 36 NullInKey if one is NULL.
-/// Each has the table, and 36 also the column. 37, 38 and 60 are as for [`read_columns`].
+/// In this order: 31 NoTable; 35 RowWidth if there are more or fewer values than key columns; 36
+/// NullInKey if one is NULL. Each has the table, and 36 also the column. 37, 38 and 60 are as for
+/// [`read_columns`].
 pub fn read_row<S: Alter>(
     alloc: Global,
     transaction: &mut Transaction<S>,
@@ -137,8 +139,9 @@ fn page_after<S: Alter>(
     Ok(page_of(alloc, schema.flags(), rows.as_slice(), after, limit)?)
 }
 
-/// Returns a page of the rows of a table, in the order of the bytes of their keys: at most so many, from the first one or
-/// from the one after a key, which need not be there. It reads all rows of the table into memory.
+/// Returns a page of the rows of a table, in the order of the bytes of their keys: at most so many,
+/// from the first one or from the one after a key, which need not be there. It reads all rows of
+/// the table into memory.
 ///
 /// # Errors
 ///
