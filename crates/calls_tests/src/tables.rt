@@ -1,121 +1,198 @@
-//! Calls that read and edit the table t, whose columns are a, its key, and b, which refuses NULL.
+//! Calls in turn, on a store in memory. The table t has the columns a, its key, and b, which refuses NULL.
 
 use cs_calls_answers::Refused;
-use cs_calls_conversions::declaration_of;
-use cs_calls_executor::{
-    count_rows, delete, insert, put, read_columns, read_page, read_row, update,
-};
+use cs_calls_executor::{ApplyCall, EditCall, ReadCall, Service, TableCall};
 use cs_calls_requests::{Call, call_read};
-use cs_store::{Store, Transaction};
+use cs_store::Store;
 use sqlite::MemStore;
 use std::alloc::Global;
 use std::process::Abort;
 
-/// The call that declares t.
-const DECLARE: &[u8] = b"\x03\x01t\x02\x01a\x01\x01b\x02";
-
-/// Returns a transaction on t, which has no row.
-fn transaction_on_t(rt: &(impl Abort + AllocGlobal)) -> Transaction<MemStore> {
-    let call = call_read(rt.alloc(), DECLARE).expect(rt, "a call");
-    let Call::Declare { columns, .. } = call else {
-        panic!(rt; "another call");
-    };
-    let it = declaration_of(rt.alloc(), &columns).expect(rt, "memory");
-    let mut store = Store::new_memory(rt.alloc()).expect(rt, "a store");
-    store
-        .declare(rt.alloc(), "t", &it.names, &it.keys, &it.refuses)
-        .expect(rt, "a table");
-    match store.into_transaction() {
-        Ok(transaction) => transaction,
-        Err((error, _)) => panic!(rt; "{error}"),
-    }
-}
-
-/// Carries out a call. Returns how many rows or columns it is answered, and 0 for an edit.
-fn carry_out(
-    alloc: Global,
-    transaction: &mut Transaction<MemStore>,
-    call: Call,
-) -> Result<u64, Refused> {
-    match call {
-        Call::Schema { table } => {
-            let columns = read_columns(alloc, transaction, &table)?;
-            Ok(columns.as_slice().len() as u64)
-        }
-        Call::Get { table, key } => {
-            let row = read_row(alloc, transaction, &table, &key)?;
-            Ok(u64::from(row.is_some()))
-        }
+/// A call on tables, or the call.
+fn table_call(call: Call) -> Result<TableCall, Call> {
+    Ok(match call {
+        Call::Tables => TableCall::Read(ReadCall::Tables),
+        Call::Schema { table } => TableCall::Read(ReadCall::Schema { table }),
+        Call::Get { table, key } => TableCall::Read(ReadCall::Get { table, key }),
         Call::Rows {
             table,
             after,
             limit,
-        } => {
-            let page = read_page(alloc, transaction, &table, after.as_ref(), limit)?;
-            Ok(page.rows.as_slice().len() as u64)
+        } => TableCall::Read(ReadCall::Rows {
+            table,
+            after,
+            limit,
+        }),
+        Call::Count { table } => TableCall::Read(ReadCall::Count { table }),
+        Call::Declare { table, columns } => TableCall::Edit(EditCall::Declare { table, columns }),
+        Call::Insert { table, row } => TableCall::Edit(EditCall::Insert { table, row }),
+        Call::Update { table, key, row } => TableCall::Edit(EditCall::Update { table, key, row }),
+        Call::Delete { table, key } => TableCall::Edit(EditCall::Delete { table, key }),
+        Call::Put { table, row } => TableCall::Edit(EditCall::Put { table, row }),
+        Call::Apply { file, noop, policy } => {
+            TableCall::Apply(ApplyCall::Apply { file, noop, policy })
         }
-        Call::Count { table } => count_rows(alloc, transaction, &table),
-        Call::Insert { table, row } => insert(alloc, transaction, &table, row).map(|_| 0),
-        Call::Update { table, key, row } => {
-            update(alloc, transaction, &table, &key, row).map(|_| 0)
-        }
-        Call::Delete { table, key } => delete(alloc, transaction, &table, &key).map(|_| 0),
-        Call::Put { table, row } => put(alloc, transaction, &table, row).map(|_| 0),
-        _ => Err(Refused::plain(0)),
+        Call::Revert { file } => TableCall::Apply(ApplyCall::Revert { file }),
+        call => return Err(call),
+    })
+}
+
+/// Carries out a call.
+fn respond(
+    alloc: Global,
+    service: Service<MemStore>,
+    call: Call,
+) -> (Service<MemStore>, Result<Vec<u8>, Refused>) {
+    match table_call(call) {
+        Ok(call) => service.carry_out(alloc, call),
+        Err(Call::Begin) => service.begin(alloc),
+        Err(Call::Commit) => service.commit(alloc),
+        Err(Call::RollBack) => service.roll_back(alloc),
+        Err(_) => (service, Err(Refused::plain(0))),
     }
 }
 
-/// Returns what the bytes of a call are answered, or the code of its refusal.
-fn outcome(
+/// Returns whether the bytes of a call are answered with these, or refused with the code.
+fn is_answered(
     rt: &(impl Abort + AllocGlobal),
-    transaction: &mut Transaction<MemStore>,
+    service: Service<MemStore>,
     call: &[u8],
-) -> Result<u64, u64> {
+    answer: Result<&[u8], u64>,
+) -> (Service<MemStore>, bool) {
     let call = call_read(rt.alloc(), call).expect(rt, "a call");
-    match carry_out(rt.alloc(), transaction, call) {
-        Ok(number) => Ok(number),
-        Err(refused) => Err(refused.code),
-    }
+    let (service, result) = respond(rt.alloc(), service, call);
+    let is_so = match (result, answer) {
+        (Ok(bytes), Ok(wanted)) => bytes.as_slice() == wanted,
+        (Err(refused), Err(code)) => refused.code == code,
+        _ => false,
+    };
+    (service, is_so)
 }
+
+const DONE: Result<&[u8], u64> = Ok(b"\x00");
+
+/// No row.
+const NONE: Result<&[u8], u64> = Ok(b"\x03\x00");
+
+/// The number 1.
+const ONE: Result<&[u8], u64> = Ok(b"\x05\0\0\0\0\0\0\0\x01");
+
+const TWO: Result<&[u8], u64> = Ok(b"\x05\0\0\0\0\0\0\0\x02");
+
+/// The row of k.
+const KX: Result<&[u8], u64> = Ok(b"\x03\x01\x02\x03\x01k\x03\x01x");
+
+/// Reports that one entry was carried out, without a conflict.
+const CLEAN: Result<&[u8], u64> = Ok(b"\x06\0\0\0\0\0\0\0\x01\0\0\0\0\0\0\0\0\x00\x00");
+
+/// Reports that the INSERT of p had a conflict, and was omitted.
+const OMITTED: Result<&[u8], u64> =
+    Ok(b"\x06\0\0\0\0\0\0\0\0\0\0\0\0\0\0\0\0\x00\x01\x03\x00\x01t\x01\x03\x01p");
 
 /// Calls in turn, and what they are answered.
-const CALLS: &[(&[u8], Result<u64, u64>)] = &[
-    (b"\x02\x01t", Ok(2)),
+const CALLS: &[(&[u8], Result<&[u8], u64>)] = &[
+    (b"\x01", Ok(b"\x01\x00")),
+    (b"\x03\x01t\x02\x01a\x01\x01b\x02", DONE),
+    (b"\x03\x01t\x02\x01a\x01\x01b\x02", Err(30)),
+    (b"\x03\x01u\x01\x01a\x00", Err(32)),
+    (b"\x01", Ok(b"\x01\x01\x01t")),
+    (b"\x02\x01t", Ok(b"\x02\x02\x01a\x03\x01b\x02")),
     (b"\x02\x01u", Err(31)),
-    (b"\x07\x01t\x02\x03\x01k\x03\x01x", Ok(0)),
+    (b"\x07\x01t\x02\x03\x01k\x03\x01x", DONE),
     (b"\x07\x01t\x02\x03\x01k\x03\x01y", Err(33)),
     (b"\x07\x01t\x02\x05\x03\x01y", Err(36)),
     (b"\x07\x01t\x02\x03\x01m\x05", Err(39)),
     (b"\x07\x01t\x01\x03\x01m", Err(35)),
-    (b"\x04\x01t\x01\x03\x01k", Ok(1)),
-    (b"\x04\x01t\x01\x03\x01m", Ok(0)),
+    (b"\x07\x01t\x01\x05", Err(35)),
+    (b"\x07\x01u\x01\x03\x01m", Err(31)),
+    (b"\x04\x01t\x01\x03\x01k", KX),
+    (b"\x04\x01t\x01\x03\x01m", NONE),
     (b"\x04\x01t\x01\x05", Err(36)),
     (b"\x04\x01t\x00", Err(35)),
-    (b"\x07\x01t\x02\x03\x01m\x03\x01z", Ok(0)),
-    (b"\x05\x01t\x00\x05", Ok(2)),
-    (b"\x05\x01t\x01\x01\x03\x01k\x05", Ok(1)),
-    (b"\x05\x01t\x00\x01", Ok(1)),
+    // Between begin and roll back.
+    (b"\x0c", Err(96)),
+    (b"\x0b", DONE),
+    (b"\x0b", Err(95)),
+    (b"\x07\x01t\x02\x03\x01m\x03\x01z", DONE),
+    (b"\x05\x01t\x00\x05", Ok(b"\x04\x02\x02\x03\x01k\x03\x01x\x02\x03\x01m\x03\x01z\x00")),
+    (b"\x0d", DONE),
+    (b"\x0d", Err(96)),
+    (b"\x06\x01t", ONE),
+    // Between begin and commit.
+    (b"\x0b", DONE),
+    (b"\x07\x01t\x02\x03\x01m\x03\x01z", DONE),
+    (b"\x07\x01t\x02\x03\x01m\x03\x01z", Err(33)),
+    (b"\x0c", DONE),
+    (b"\x05\x01t\x01\x01\x03\x01k\x05", Ok(b"\x04\x01\x02\x03\x01m\x03\x01z\x00")),
+    (b"\x05\x01t\x00\x01", Ok(b"\x04\x01\x02\x03\x01k\x03\x01x\x01")),
     (b"\x08\x01t\x01\x03\x01k\x02\x03\x01m\x03\x01x", Err(33)),
-    (b"\x08\x01t\x01\x03\x01k\x02\x03\x01n\x03\x01x", Ok(0)),
+    (b"\x08\x01t\x01\x03\x01k\x02\x03\x01n\x03\x01x", DONE),
     (b"\x08\x01t\x01\x03\x01k\x02\x03\x01k\x03\x01x", Err(34)),
-    (b"\x04\x01t\x01\x03\x01n", Ok(1)),
-    (b"\x09\x01t\x01\x03\x01m", Ok(0)),
+    (b"\x08\x01t\x01\x03\x01k\x01\x05", Err(35)),
+    (b"\x08\x01t\x01\x03\x01k\x02\x03\x01k\x05", Err(39)),
+    (b"\x08\x01u\x01\x03\x01k\x01\x05", Err(31)),
+    (b"\x04\x01t\x01\x03\x01k", NONE),
+    (b"\x09\x01t\x01\x03\x01m", DONE),
     (b"\x09\x01t\x01\x03\x01m", Err(34)),
-    (b"\x0a\x01t\x02\x03\x01n\x03\x01y", Ok(0)),
-    (b"\x06\x01t", Ok(1)),
-    (b"\x0a\x01t\x02\x03\x01o\x03\x01y", Ok(0)),
+    (b"\x09\x01u\x01\x03\x01m", Err(31)),
+    (b"\x0a\x01t\x02\x03\x01n\x03\x01y", DONE),
+    (b"\x06\x01t", ONE),
+    (b"\x0a\x01t\x02\x03\x01o\x03\x01y", DONE),
     (b"\x0a\x01t\x02\x03\x01n\x05", Err(39)),
     (b"\x0a\x01t\x02\x05\x03\x01y", Err(36)),
     (b"\x0a\x01t\x01\x03\x01n", Err(35)),
-    (b"\x06\x01t", Ok(2)),
+    (b"\x06\x01t", TWO),
     (b"\x06\x01u", Err(31)),
+    // The INSERT of p is applied, has a conflict, and is reverted.
+    (b"\x0e\x0eT\x02\x01\x00t\0\x12\0\x03\x01p\x03\x01q\x00\x02\x02\x02\x02", CLEAN),
+    (b"\x0e\x0eT\x02\x01\x00t\0\x12\0\x03\x01p\x03\x01q\x00\x02\x02\x02\x02", Err(41)),
+    (b"\x0e\x0eT\x02\x01\x00t\0\x12\0\x03\x01p\x03\x01q\x00\x00\x00\x00\x00", OMITTED),
+    (b"\x11\x0eT\x02\x01\x00t\0\x12\0\x03\x01p\x03\x01q", CLEAN),
+    (b"\x11\x0eT\x02\x01\x00t\0\x12\0\x03\x01p\x03\x01q", Err(41)),
+    (b"\x11\x01P", Err(3)),
+    (b"\x06\x01t", TWO),
+    // Rows are in the order of the bytes of their keys.
+    (b"\x03\x01o\x02\x01a\x01\x01b\0", DONE),
+    (b"\x07\x01o\x02\x04\x02\0\0\x03\0", DONE),
+    (b"\x07\x01o\x02\x04\x01\x01\x03\0", DONE),
+    (b"\x07\x01o\x02\x04\x01\0\x03\0", DONE),
+    (b"\x07\x01o\x02\x04\0\x03\0", DONE),
+    (b"\x07\x01o\x02\x03\x02aa\x03\0", DONE),
+    (b"\x07\x01o\x02\x03\x01b\x03\0", DONE),
+    (b"\x07\x01o\x02\x03\x01\0\x03\0", DONE),
+    (b"\x07\x01o\x02\x03\0\x03\0", DONE),
+    (b"\x07\x01o\x02\x01\xff\xff\xff\xff\xff\xff\xff\xff\x03\0", DONE),
+    (b"\x07\x01o\x02\x01\0\0\0\0\0\0\x01\0\x03\0", DONE),
+    (b"\x07\x01o\x02\x01\0\0\0\0\0\0\0\0\x03\0", DONE),
+    (b"\x05\x01o\0\x01", Ok(b"\x04\x01\x02\x01\0\0\0\0\0\0\0\0\x03\0\x01")),
+    (
+        b"\x05\x01o\x01\x01\x01\0\0\0\0\0\0\0\0\x01",
+        Ok(b"\x04\x01\x02\x01\0\0\0\0\0\0\x01\0\x03\0\x01"),
+    ),
+    (
+        b"\x05\x01o\x01\x01\x01\0\0\0\0\0\0\x01\0\x01",
+        Ok(b"\x04\x01\x02\x01\xff\xff\xff\xff\xff\xff\xff\xff\x03\0\x01"),
+    ),
+    (
+        b"\x05\x01o\x01\x01\x01\xff\xff\xff\xff\xff\xff\xff\xff\x01",
+        Ok(b"\x04\x01\x02\x03\0\x03\0\x01"),
+    ),
+    (b"\x05\x01o\x01\x01\x03\0\x01", Ok(b"\x04\x01\x02\x03\x01\0\x03\0\x01")),
+    (b"\x05\x01o\x01\x01\x03\x01\0\x01", Ok(b"\x04\x01\x02\x03\x01b\x03\0\x01")),
+    (b"\x05\x01o\x01\x01\x03\x01b\x01", Ok(b"\x04\x01\x02\x03\x02aa\x03\0\x01")),
+    (b"\x05\x01o\x01\x01\x03\x02aa\x01", Ok(b"\x04\x01\x02\x04\0\x03\0\x01")),
+    (b"\x05\x01o\x01\x01\x04\0\x01", Ok(b"\x04\x01\x02\x04\x01\0\x03\0\x01")),
+    (b"\x05\x01o\x01\x01\x04\x01\0\x01", Ok(b"\x04\x01\x02\x04\x01\x01\x03\0\x01")),
+    (b"\x05\x01o\x01\x01\x04\x01\x01\x01", Ok(b"\x04\x01\x02\x04\x02\0\0\x03\0\0")),
 ];
 
 #[test]
 fn carries_out_calls_in_turn(rt: HostRuntime) {
-    let mut transaction = transaction_on_t(&rt);
+    let store = Store::new_memory(rt.alloc()).expect(&rt, "a store");
+    let mut service = Service::AtRest(store);
     for (at, (call, answer)) in CALLS.iter().enumerate() {
-        let answered = outcome(&rt, &mut transaction, call);
-        assert!(rt; answered == *answer, "at {at}");
+        let (next, is_so) = is_answered(&rt, service, call, *answer);
+        assert!(rt; is_so, "at {at}");
+        service = next;
     }
 }

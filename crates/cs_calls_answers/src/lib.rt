@@ -7,11 +7,12 @@
 //! ```
 //!
 //! `answer` has the answers, `conflicts` the conflicts in them, `lists` their lists, and `refusal` refusals that name
-//! nothing. `reading` reads answers, and `writing` writes them. Their parts are those of [`cs_calls_parts`].
+//! nothing. `reading` reads answers, `writing` writes them, and `counts` has whether they can be written. Their parts are those of [`cs_calls_parts`].
 #![tactic(auto)]
 
 mod answer;
 mod conflicts;
+mod counts;
 mod laws;
 mod lists;
 mod reading;
@@ -20,6 +21,7 @@ mod writing;
 
 pub use answer::{Answer, Refused, Reported};
 pub use conflicts::{FoundConflict, MetConflict};
+pub use counts::has_counts;
 pub use cs_calls_parts::{CallError, CallFault, CallFaultKind, Column, Columns};
 pub use laws::answer_bytes_law;
 pub use lists::{FoundConflicts, MetConflicts, Names, RowList};

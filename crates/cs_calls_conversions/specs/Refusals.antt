@@ -9,7 +9,7 @@ use Rattle.cs_value.specs.State.{SchemaData, is_marked}
 use Rattle.cs_rows.specs.declared.fault.Cause.{Cause}
 use Rattle.cs_rows.specs.declared.fault.Cause.TheVariants.{Busy, NotADatabase, Full, InputOutput, Other}
 use Rattle.cs_rows.specs.declared.fault.StoreError.{StoreError}
-use Rattle.cs_rows.specs.declared.fault.StoreError.TheVariants.{NoTable, StoreFault, RowWidth, NullInKey, NotNull, KeyTaken, NoRow}
+use Rattle.cs_rows.specs.declared.fault.StoreError.TheVariants.{NoTable, StoreFault, RowWidth, NullInKey, NotNull, KeyTaken, NoRow, TableExists, BadSchema}
 use Rattle.cs_rows.specs.declared.edit.Edit.{Edit}
 use Rattle.cs_rows.specs.declared.edit.Edit.TheVariants.{Insert, Update, Delete}
 use Rattle.cs_rows.specs.Faults.{code_of}
@@ -49,6 +49,12 @@ of_error error = plain_refusal (code_of error)
 abbrev pub of_read_error : List ℕ → StoreError → Refused
 of_read_error table NoTable = of_table 31 table
 of_read_error table error = of_error error
+
+-- the refusal of a declaration
+abbrev pub of_declare_error : List ℕ → StoreError → Refused
+of_declare_error table TableExists = of_table 30 table
+of_declare_error table BadSchema = of_table 32 table
+of_declare_error table error = of_error error
 
 -- ---- rows that do not fit their table, or whose place is taken
 

@@ -6,16 +6,20 @@
 //! let columns = columns_of(alloc, &schema)?;
 //! ```
 //!
-//! `key` has the keys, `columns` the columns, `page` the pages, and `refusal` the refusals, with the parts that
-//! `docs/CALLS.md` lists.
+//! `key` has the keys, `columns` the columns, `names` the names of tables, `page` the pages,
+//! `conflicts` the keys of conflicts, and `refusal` the refusals, with the parts that `docs/CALLS.md` lists.
 #![tactic(auto)]
 
 mod columns;
+mod conflicts;
 mod key;
+mod names;
 mod page;
 mod refusal;
 
 pub use columns::{Declaration, columns_of, declaration_of};
+pub use conflicts::change_key;
 pub use key::{key_of_call, key_values};
+pub use names::{name_text, names_of};
 pub use page::{Page, page_of};
-pub use refusal::{edit_refusal, read_refusal, store_refusal, table_refusal};
+pub use refusal::{declare_refusal, edit_refusal, read_refusal, store_refusal, table_refusal};

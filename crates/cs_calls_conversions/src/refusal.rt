@@ -5,7 +5,7 @@ ghost use Rattle.std.specs.List.{zip};
 ghost use Rattle.cs_value.specs.State.{is_marked};
 ghost use Rattle.cs_calls_answers.specs.Refusals.{plain_refusal};
 ghost use Rattle.cs_calls_conversions.specs.Refusals.{of_table as table_part, of_row as row_part, of_column as column_part};
-ghost use Rattle.cs_calls_conversions.specs.Refusals.{of_error, of_read_error, of_row_error, of_edit_error, cause_number as number_of_cause};
+ghost use Rattle.cs_calls_conversions.specs.Refusals.{of_error, of_read_error, of_row_error, of_edit_error, of_declare_error, cause_number as number_of_cause};
 ghost use Rattle.cs_calls_conversions.specs.Refusals.{is_null as is_null_value};
 
 use crate::key::{key_values, text_of};
@@ -239,5 +239,17 @@ pub fn table_refusal(alloc: Global, code: u64, table: &Text) -> Refused
     match of_table(alloc, code, table) {
         Ok(refused) => refused,
         Err(refusal) => Refused::from(refusal),
+    }
+}
+
+/// Returns the refusal of a declaration, by the error of the store: 30 TableExists and 32 BadSchema with the table, and
+/// the others as [`store_refusal`]. It is 60 NoMemory if memory runs out for the name.
+pub fn declare_refusal(alloc: Global, table: &Text, error: StoreError) -> Refused
+    ensures { (result ≡ of_declare_error table.now error) ⊎ (result ≡ plain_refusal 60) }
+{
+    match error {
+        StoreError::TableExists => table_refusal(alloc, 30, table),
+        StoreError::BadSchema => table_refusal(alloc, 32, table),
+        error => store_refusal(error),
     }
 }

@@ -73,7 +73,7 @@ pub may_end : (why : Refused) → IsResource why → MayEnd why
 may_end why resource = record { error = resource.error; of = inr resource.of; is = resource.is }
 
 -- what a read leaves, if the call is refused then
-rested_within : {Y : Type 0} (why : Refused) (Makes : State → Type 0) (old new : sqlite.State) → KeepsStore old new → (HasCleanDisk new → Rests old new)
+pub rested_within : {Y : Type 0} (why : Refused) (Makes : State → Type 0) (old new : sqlite.State) → KeepsStore old new → (HasCleanDisk new → Rests old new)
     → (HasCleanDisk old → old.in_transaction ≡ false → IsTrue old.is_open → old.now ≡ old.committed) → (HasCleanDisk new → IsUnchanged old new ⊎ MayEnd why)
     → Within {X = Y} Makes MayEnd old new (Err why)
 rested_within {Y} why Makes old new kept rests settled changed = record {

@@ -1,6 +1,12 @@
+mod ApplyLemmas
+mod CallLemmas
+mod DeclareLemmas
 mod EditLemmas
 mod KeyLemmas
+mod MarkLemmas
 mod PutLemmas
 mod ReadLemmas
 mod RefusalLemmas
 mod RefusedEdits
+mod ServiceLemmas
+mod WorkLemmas

@@ -96,8 +96,12 @@ reads_unable answer old new error why kept rests resource is = record {
 pub no_memory : IsResource (plain_refusal 60)
 no_memory = record { error = NoMemory; of = inl refl; is = refl }
 
+-- what is read of tables
+abbrev pub okay : {X : Type 0} → X → Result X Refused
+okay x = Ok x
+
 -- what an outcome is of
-from_ok : {X : Type 0} → X → Result X Refused → X
+unfoldable pub from_ok : {X : Type 0} → X → Result X Refused → X
 from_ok x (Ok y) = y
 from_ok x (Err why) = x
 

@@ -1,5 +1,5 @@
 -- What calls do in the transaction of a store.
-use Rattle.std.specs.Prelude.{◌≡◌, ◌⊎◌, Result, Ok, Err, IfErr, IsErrAnd}
+use Rattle.std.specs.Prelude.{◌≡◌, ◌⊎◌, IsTrue, Result, Ok, Err, IfErr, IsErrAnd}
 use Rattle.sqlite.specs.State as sqlite
 use Rattle.sqlite.specs.State.{HasCleanDisk, IsUnchanged}
 use Rattle.cs_value.specs.State.{State}
@@ -29,6 +29,10 @@ MayEnd = IsRefusalOf stores.IsReadRefusal
 abbrev pub IsAnswered : {X : Type 0} → Result X Refused → sqlite.State → sqlite.State → Result X Refused → Type 0
 IsAnswered answer old new result = ((result ≡ answer) × IsUnchanged old new) ⊎ IsErrAnd result IsResource
 
+-- the connection is open, if the disk has returned what was written
+abbrev pub IsOpen : sqlite.State → Type 0
+IsOpen s = HasCleanDisk s → IsTrue s.is_open
+
 -- If the disk has returned what was written: the result is the one that is defined for the tables that are shown. A
 -- refused read changes nothing, or it has ended the transaction.
 pub record Reads {X : Type 0} (answer : State → Result X Refused) (old new : sqlite.State) (result : Result X Refused) : Type 0
@@ -37,9 +41,13 @@ pub record Reads {X : Type 0} (answer : State → Result X Refused) (old new : s
     pub rests : HasCleanDisk new → Rests old new
     pub given : HasCleanDisk new → IsAnswered (answer (tables_in old.now)) old new result
 
--- An accepted edit makes the tables of `next`. A refused one has the refusal of `next`, or memory ran out, or the database
--- refused.
-pub record Edits {X : Type 0} (next : State → Result State Refused) (old new : sqlite.State) (result : Result X Refused) : Type 0
-  where
-    pub within : Within (λ made. next (tables_in old.now) ≡ Ok made) MayEnd old new result
-    pub refused : HasCleanDisk new → IfErr result (λ why. (next (tables_in old.now) ≡ Err why) ⊎ IsResource why)
+-- An accepted edit makes tables that `Next` relates to those that are shown. A refused one has a refusal of `Next`, or
+-- memory ran out, or the database refused.
+pub record Makes {X : Type 0} (Next : State → Result State Refused → Type 0) (old new : sqlite.State) (result : Result X Refused) :
+    Type 0 where
+  pub within : Within (λ made. Next (tables_in old.now) (Ok made)) MayEnd old new result
+  pub refused : HasCleanDisk new → IfErr result (λ why. Next (tables_in old.now) (Err why) ⊎ IsResource why)
+
+-- the tables and the refusals of `next`
+abbrev pub Edits : {X : Type 0} → (State → Result State Refused) → sqlite.State → sqlite.State → Result X Refused → Type 0
+Edits next old new result = Makes (λ tables outcome. next tables ≡ outcome) old new result

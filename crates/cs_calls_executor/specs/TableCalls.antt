@@ -1,6 +1,6 @@
 -- What calls on the tables of a store are answered, and the tables after them, or why they are refused. Tables, rows and
 -- edits are those of SQLite; the calls and their refusals are this project's own.
-use Rattle.std.specs.Prelude.{ℕ, Bool, true, false, List, length, Option, None, Some, is_some, Result, Ok, Err}
+use Rattle.std.specs.Prelude.{◌≡◌, ℕ, Bool, true, false, List, length, Option, None, Some, is_some, Result, Ok, Err}
 use Rattle.std.specs.FinMap as map
 use Rattle.std.specs.declared.alloc.Global.{Global}
 use Rattle.std.specs.declared.string.String.{String}
@@ -11,14 +11,14 @@ use Rattle.cs_value.specs.State.{SchemaData, State, schema_at, rows_at, row_at}
 use Rattle.cs_rows.specs.declared.edit.Edit.{Edit}
 use Rattle.cs_rows.specs.declared.edit.Edit.TheVariants.{Insert, Update}
 use Rattle.cs_rows.specs.declared.fault.StoreError.{StoreError}
-use Rattle.cs_rows.specs.Editing.{Edited, inserted, updated, deleted}
+use Rattle.cs_rows.specs.Editing.{Edited, Declares, inserted, updated, deleted}
 use Rattle.cs_calls_answers.specs.declared.answer.Refused.{Refused}
 use Rattle.cs_calls_parts.specs.declared.lists.Column.{Column}
 use Rattle.cs_calls_conversions.specs.declared.page.Page.{Page}
-use Rattle.cs_calls_conversions.specs.Columns.{schema_columns}
+use Rattle.cs_calls_conversions.specs.Columns.{declared_schema, schema_columns}
 use Rattle.cs_calls_conversions.specs.Keys.{key_refusal}
 use Rattle.cs_calls_conversions.specs.Pages.{page_rows, has_more}
-use Rattle.cs_calls_conversions.specs.Refusals.{of_table, of_row_error, of_update_error, of_delete_error}
+use Rattle.cs_calls_conversions.specs.Refusals.{of_table, of_declare_error, of_row_error, of_update_error, of_delete_error}
 
 -- ---- what comes first
 
@@ -68,6 +68,12 @@ table_page state table (Some values) limit =
     on_table state table (λ schema. with_key table schema values (λ key. Ok (page_at state table schema (Some key) limit)))
 
 -- ---- edits: the tables after them
+
+-- the tables after a declaration, or why there are none
+abbrev pub Declared : State → List ℕ → List Column → Result State Refused → Type 0
+Declared state table columns (Ok next) = Declares state table (declared_schema columns) (Ok next)
+Declared state table columns (Err why) =
+    (error : StoreError) × Declares state table (declared_schema columns) (Err error) × (why ≡ of_declare_error table error)
 
 abbrev pub edit_outcome : (StoreError → Refused) → Result Edited StoreError → Result State Refused
 edit_outcome why (Ok edited) = Ok edited.state

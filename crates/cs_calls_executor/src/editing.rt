@@ -3,18 +3,44 @@ ghost use Rattle.std.specs.Prelude.{◌≡◌, IfOk, string_bytes};
 ghost use Rattle.sqlite.specs.Held.{state};
 ghost use Rattle.cs_rows.specs.Editing.{edited};
 ghost use Rattle.cs_calls_conversions.specs.Refusals.{of_edit_error};
-ghost use Rattle.cs_calls_executor.specs.Answered.{Edits};
+ghost use Rattle.cs_calls_executor.specs.Answered.{Edits, Makes};
 ghost use Rattle.cs_calls_executor.specs.TableCalls.{putting as edit_that_puts};
-ghost use Rattle.cs_calls_executor.specs.TableCalls.{edit_outcome, inserts, updates, deletes, puts};
+ghost use Rattle.cs_calls_executor.specs.TableCalls.{Declared, edit_outcome, inserts, updates, deletes, puts};
 
 use crate::reading::{find_row, find_schema};
 use cs_calls_answers::Refused;
-use cs_calls_conversions::{edit_refusal, key_of_call, key_values};
+use cs_calls_conversions::{
+    declaration_of, declare_refusal, edit_refusal, key_of_call, key_values,
+};
+use cs_calls_parts::Columns;
 use cs_rows::{Edit, Schema};
 use cs_store::Transaction;
 use cs_value::{Key, NoMemory, Row, Text};
 use sqlite::Alter;
 use std::alloc::Global;
+
+/// Declares a table without rows.
+///
+/// # Errors
+///
+/// In this order: 32 BadSchema if the name or the columns make no table; 30 TableExists. Each has
+/// the table. The others are as for [`insert`].
+pub fn declare<S: Alter + Drop>(
+    alloc: Global,
+    transaction: &mut Transaction<S>,
+    table: &Text,
+    columns: &Columns,
+) -> Result<(), Refused>
+    ensures { Makes (λ tables. Declared tables table.now columns.now)
+        (state S.Store transaction.old) (state S.Store transaction.new) result }
+{
+    transaction.store_law();
+    let it = declaration_of(alloc, columns)?;
+    match transaction.declare(alloc, table.as_str(), &it.names, &it.keys, &it.refuses) {
+        Ok(()) => Ok(()),
+        Err(error) => Err(declare_refusal(alloc, table, error)),
+    }
+}
 
 /// Carries out an edit of a table. A call names the row of an update or a deletion by the values of its key.
 fn carry_out<S: Alter + Drop>(

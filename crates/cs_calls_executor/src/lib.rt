@@ -6,13 +6,19 @@
 //! let found = read_row(alloc, &mut transaction, &table, &key)?;
 //! ```
 //!
-//! `reading` has the calls that read, and `editing` those that edit rows. Each refusal has the
-//! parts that `CALLS` of the documents lists.
+//! `reading` has the calls that read, `editing` those that edit, and `applying` those that apply a changeset file.
+//! `calls` carries out any of them, and returns the bytes of the answer. A `service` is a store that answers calls. Each refusal has the parts that `CALLS` of the documents lists.
 #![tactic(auto)]
 
+mod applying;
+mod calls;
 mod editing;
 mod reading;
+mod service;
 
+pub use applying::ApplyCall;
+pub use calls::{EditCall, ReadCall, TableCall, bytes_of, carry_out};
 pub use cs_calls_conversions::Page;
-pub use editing::{delete, insert, put, update};
-pub use reading::{count_rows, read_columns, read_page, read_row};
+pub use editing::{declare, delete, insert, put, update};
+pub use reading::{count_rows, list_tables, read_columns, read_page, read_row};
+pub use service::Service;

@@ -6,9 +6,9 @@ ghost use Rattle.cs_value.specs.State.{row_at, rows_at};
 ghost use Rattle.cs_calls_executor.specs.Answered.{Reads};
 ghost use Rattle.cs_calls_executor.specs.TableCalls.{on_table, table_columns, table_row, table_count, table_page, page_at};
 
-use cs_calls_answers::{Refused, RowList};
+use cs_calls_answers::{Names, Refused, RowList};
 use cs_calls_conversions::{
-    Page, columns_of, key_of_call, page_of, read_refusal, store_refusal, table_refusal,
+    Page, columns_of, key_of_call, names_of, page_of, read_refusal, store_refusal, table_refusal,
 };
 use cs_calls_parts::Columns;
 use cs_rows::Schema;
@@ -64,14 +64,32 @@ fn find_rows<S: Alter>(
     }
 }
 
+/// Returns the names of the tables, in the order of their bytes.
+///
+/// # Errors
+///
+/// 38 StoreFault if the database refuses. 60 NoMemory if out of memory, or if a name has more than
+/// 2147483647 bytes. 37 DamagedStore if the disk does not return what was written. Nothing has
+/// changed then, or the transaction has ended. In one that has ended, reads show the store as it was
+/// when the transaction began.
+pub fn list_tables<S: Alter>(
+    alloc: Global,
+    transaction: &mut Transaction<S>,
+) -> Result<Names, Refused>
+    ensures { Reads (λ tables. Ok (map.keys tables))
+        (state S.Store transaction.old) (state S.Store transaction.new) result }
+{
+    match transaction.tables(alloc) {
+        Ok(names) => Ok(names_of(alloc, &names)?),
+        Err(error) => Err(store_refusal(error)),
+    }
+}
+
 /// Returns the columns of a table. Columns of the key are marked as refusing NULL too.
 ///
 /// # Errors
 ///
-/// 31 NoTable with the table. 38 StoreFault if the database refuses, 60 NoMemory if out of memory,
-/// and 37 DamagedStore if the disk does not return what was written. Nothing has changed then, or
-/// the transaction has ended. In one that has ended, reads show the store as it was when the
-/// transaction began.
+/// 31 NoTable with the table. The others are as for [`list_tables`].
 pub fn read_columns<S: Alter>(
     alloc: Global,
     transaction: &mut Transaction<S>,
@@ -89,8 +107,8 @@ pub fn read_columns<S: Alter>(
 /// # Errors
 ///
 /// In this order: 31 NoTable; 35 RowWidth if there are more or fewer values than key columns; 36
-/// NullInKey if one is NULL. Each has the table, and 36 also the column. 37, 38 and 60 are as for
-/// [`read_columns`].
+/// NullInKey if one is NULL. Each has the table, and 36 also the column. The others are as for
+/// [`list_tables`].
 pub fn read_row<S: Alter>(
     alloc: Global,
     transaction: &mut Transaction<S>,

@@ -1,9 +1,8 @@
-//! Edits of rows in memory and in a batch, which return the same, and the order in which rows are listed.
+//! Edits of rows in memory, and the order in which rows are listed. `calls_tests` has those of stores.
 
-use crate::rows::{Call, edit_of, end, row_of, rows_of, store_of, tables};
-use cs_store::{Rows, Store, StoreError, Written, edit_in};
+use crate::rows::{Call, edit_of, row_of, tables};
+use cs_store::{Rows, StoreError, Written, edit_in};
 use cs_value::{Row, Value};
-use sqlite::Alter;
 use std::process::Abort;
 
 /// An edit, the number of keys that it writes or why it is refused, and the number of rows of t after it.
@@ -151,24 +150,4 @@ fn expect_order<B: Rows>(rt: &(impl Abort + AllocGlobal), rows: &mut B) {
 fn edits_rows_in_memory(rt: HostRuntime) {
     expect_answers(&rt, &mut tables(&rt));
     expect_order(&rt, &mut tables(&rt));
-}
-
-/// Asserts both of batches, which are dropped.
-fn expect_answers_in_batch<S: Alter>(rt: &(impl Abort + AllocGlobal), store: &mut Store<S>) {
-    let mut batch = store.begin().expect(rt, "a batch");
-    expect_answers(rt, &mut batch);
-}
-
-fn expect_order_in_batch<S: Alter>(rt: &(impl Abort + AllocGlobal), store: &mut Store<S>) {
-    let mut batch = store.begin().expect(rt, "a batch");
-    expect_order(rt, &mut batch);
-}
-
-#[test]
-fn edits_rows_in_a_batch(rt: HostRuntime) {
-    let mut store = store_of(&rt, &[false, true]);
-    expect_answers_in_batch(&rt, &mut store);
-    expect_order_in_batch(&rt, &mut store);
-    assert!(rt; rows_of(&rt, &mut store).is_empty());
-    end(store);
 }

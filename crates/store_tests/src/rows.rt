@@ -151,28 +151,6 @@ fn refuses_other_marks_in_memory(rt: HostRuntime) {
 }
 
 #[test]
-fn declares_a_table_once_in_a_transaction(rt: HostRuntime) {
-    let store = Store::new_memory(rt.alloc()).expect(&rt, "a store");
-    let columns = names(&rt, "a", "b");
-    match store.into_transaction() {
-        Ok(mut transaction) => {
-            for is_new in [true, false] {
-                let result = transaction.declare(
-                    rt.alloc(),
-                    "t",
-                    &columns,
-                    &[true, false],
-                    &[false, true],
-                );
-                assert!(rt; result.is_ok() == is_new);
-            }
-            end(transaction.roll_back());
-        }
-        Err((error, _)) => panic!(rt; "refused: {error}"),
-    }
-}
-
-#[test]
 fn refuses_other_marks_before_a_taken_name(rt: HostRuntime) {
     let columns = names(&rt, "a", "b");
     let mut store = store_of(&rt, &[false, false]);

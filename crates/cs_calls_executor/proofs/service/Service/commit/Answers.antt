@@ -1,0 +1,24 @@
+-- `service::Service::commit`: the transaction is committed, or the database refuses.
+use Rattle.std.proofs.Common.{inl}
+use Rattle.sqlite.specs.Held.{state}
+use Rattle.cs_calls_executor.proofs.ServiceLemmas.{still_inside}
+use Rattle.cs_calls_executor.proofs.service.Service.commit.Goals as goal
+
+pub returns-in-Ok-commit : goal.returns-in-Ok-commit
+returns-in-Ok-commit g c =
+    let it = c.in-Ok-commit.ensures in
+    rw c.in-InTransaction.is (c.in-Ok.ensures.ok, record { ends = it.committed; others = it.others; atomic = it.atomic; left = it.left })
+
+pub returns-in-Err-commit : goal.returns-in-Err-commit
+returns-in-Err-commit g c =
+    let it = c.in-Err-commit.ensures in
+    rw c.in-InTransaction.is (inl (record {
+      error = c.in-Err-commit.error;
+      is = c.store_refusal.ensures;
+      of = it.refused;
+      inside = still_inside (state g.S.Store c.in-InTransaction.transaction) c.has_ended.result c.has_ended.ensures.value c.if-has_ended.false;
+      caused = it.caused;
+      undone = it.undone;
+      atomic = it.unsure;
+      stands = it.stands;
+    }))
