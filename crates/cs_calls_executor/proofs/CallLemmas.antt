@@ -85,8 +85,7 @@ module _ (old new : sqlite.State) (settled : HasCleanDisk old → old.in_transac
       within = record {
         kept = one.kept;
         made = λ clean.
-            let it = is_given clean in
-            (
+            let it = is_given clean in (
               record { is_open = it.1.0.is_open; inside = subst IsTrue (sym it.1.0.mode) inside },
               record { given = given; answers = (it.0, ap (λ (db : Database). tables_in db) it.1.0.now_is); sent = sent },
             );

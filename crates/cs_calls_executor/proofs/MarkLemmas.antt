@@ -1,11 +1,9 @@
 -- An apply after a mark, to which a refusal goes back.
-use Rattle.std.proofs.Common.{◌≡◌, ◌⊎◌, inl, inr, ℕ, List, Bool, Vec, Global, IsTrue, false, true, true≢false, Result, Ok, Err, IfOk, IfErr, OnOk, is_ok, sym, subst, ◌∙◌}
+use Rattle.std.proofs.Common.{◌≡◌, inl, inr, ℕ, List, Vec, Global, IsTrue, false, true, true≢false, Result, Ok, Err, IfOk, IfErr, OnOk, is_ok, sym, subst, ◌∙◌}
 use Rattle.sqlite.specs.Effect.{Database}
 use Rattle.sqlite.specs.State as sqlite
 use Rattle.sqlite.specs.State.{HasCleanDisk, Savepoint, Shows}
 use Rattle.cs_value.specs.State.{State}
-use Rattle.cs_rows.specs.declared.fault.StoreError.{StoreError}
-use Rattle.cs_rows.specs.Faults as stores
 use Rattle.cs_store.specs.Laws.{was_clean}
 use Rattle.cs_store.specs.Records.{IsUndone, KeepsCrash}
 use Rattle.cs_store.specs.Store.{tables_in}

@@ -12,7 +12,7 @@ use Rattle.cs_rows.specs.Faults as stores
 use Rattle.cs_store.specs.Crash.{IsAtomic, LeavesOnly}
 use Rattle.cs_store.specs.Laws.{content_itself, keeps_itself, was_clean}
 use Rattle.cs_store.specs.Records.{IsUndone, KeepsContent, KeepsCrash, KeepsOthers}
-use Rattle.cs_store.specs.Store.{Begins, Ends, IsInside, KeepsStore, tables_in}
+use Rattle.cs_store.specs.Store.{Begins, Ends, IsInside, tables_in}
 use Rattle.cs_store.proofs.CrashLemmas.{begun_tables, made_tables}
 use Rattle.cs_store.proofs.TransactLemmas.{unbegun_transacts, dropped_transacts, uncommitted_transacts, committed_transacts}
 use Rattle.cs_calls_answers.specs.declared.answer.Refused.{Refused}

@@ -1,14 +1,13 @@
 -- The work of an apply: the file is run, and what it did is read of the tables.
-use Rattle.std.proofs.Common.{◌≡◌, ◌⊎◌, inl, inr, ℕ, Vec, Global, IsTrue, Result, Ok, Err, IfOk, IfErr, refl, sym, ap, subst, ◌∙◌}
+use Rattle.std.proofs.Common.{◌≡◌, inl, inr, ℕ, Vec, Global, IsTrue, Result, Ok, Err, IfOk, IfErr, refl, sym, ap, subst, ◌∙◌}
 use Rattle.sqlite.specs.Effect.{Database}
 use Rattle.sqlite.specs.State as sqlite
 use Rattle.sqlite.specs.State.{HasCleanDisk, IsUnchanged}
 use Rattle.cs_value.specs.State.{State}
-use Rattle.cs_rows.specs.declared.fault.StoreError.{StoreError}
 use Rattle.cs_rows.specs.declared.fault.StoreError.TheVariants.{NoMemory, DamagedStore}
 use Rattle.cs_store.specs.Laws.{keeps_then, was_clean}
 use Rattle.cs_store.specs.Store.{tables_in}
-use Rattle.cs_store.specs.Within.{EndsCall, Within}
+use Rattle.cs_store.specs.Within.{Within}
 use Rattle.cs_apply.specs.Crash.{AppliesInto}
 use Rattle.cs_apply_engine.specs.declared.conflict.Conflict.{Conflict}
 use Rattle.cs_apply_engine.specs.declared.fault.ApplyFault.{ApplyFault}
@@ -24,7 +23,7 @@ use Rattle.cs_calls_executor.specs.declared.applying.ApplyCall.{ApplyCall}
 use Rattle.cs_calls_executor.specs.declared.calls.TableCall.TheVariants.{Apply}
 use Rattle.cs_calls_executor.specs.Answered.{IsAnswered, IsOpen, IsResource, MayEnd, Reads}
 use Rattle.cs_calls_executor.specs.Applying.{AppliesAs, IsToldBy, RefusesAs, chooses, direction_of, file_of, noop_of}
-use Rattle.cs_calls_executor.specs.Calls.{IsRefusal, IsUnsent, Sends, Works}
+use Rattle.cs_calls_executor.specs.Calls.{IsUnsent, Works}
 use Rattle.cs_calls_executor.proofs.CallLemmas.{unsent}
 use Rattle.cs_calls_executor.proofs.EditLemmas.{answered, may_end}
 use Rattle.cs_calls_executor.proofs.ReadLemmas.{from_ok, okay}

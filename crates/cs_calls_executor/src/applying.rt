@@ -35,7 +35,9 @@ pub enum ApplyCall {
         policy: Policy,
     },
     /// Applies the inverse of the changeset. The first conflict aborts it.
-    Revert { file: Bytes },
+    Revert {
+        file: Bytes,
+    },
 }
 
 /// Applies the file of a call.
@@ -173,10 +175,7 @@ fn fault_refusal(fault: ApplyFault) -> Result<Refused, (u64, Conflict)>
     ensures { IsToldBy result fault }
 {
     match fault {
-        ApplyFault::Read(fault) => Ok(detail_refusal(
-            u64::from(fault.code()),
-            fault.place as u64,
-        )),
+        ApplyFault::Read(fault) => Ok(detail_refusal(u64::from(fault.code()), fault.place as u64)),
         ApplyFault::Wider(index) => Ok(detail_refusal(40, index as u64)),
         ApplyFault::Abort(conflict) => Err((41, conflict)),
         ApplyFault::Misuse(conflict) => Err((42, conflict)),

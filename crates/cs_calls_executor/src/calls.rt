@@ -21,9 +21,14 @@ pub enum ReadCall {
     /// Lists the tables.
     Tables,
     /// Shows the columns of a table.
-    Schema { table: Text },
+    Schema {
+        table: Text,
+    },
     /// Reads the row of a key.
-    Get { table: Text, key: Row },
+    Get {
+        table: Text,
+        key: Row,
+    },
     /// Reads at most so many rows in the order of the bytes of their keys, from the first one or from the one after a key.
     Rows {
         table: Text,
@@ -31,7 +36,9 @@ pub enum ReadCall {
         limit: u32,
     },
     /// Counts the rows of a table.
-    Count { table: Text },
+    Count {
+        table: Text,
+    },
 }
 
 /// A call that edits tables.

@@ -43,10 +43,7 @@ impl<S: Alter + Drop> Service<S> {
         let store = match self {
             Service::AtRest(store) => store,
             Service::InTransaction(transaction) => {
-                return (
-                    Service::InTransaction(transaction),
-                    Err(Refused::plain(95)),
-                );
+                return (Service::InTransaction(transaction), Err(Refused::plain(95)));
             }
         };
         let done = match done(alloc) {
@@ -115,11 +112,7 @@ impl<S: Alter + Drop> Service<S> {
     /// 60 NoMemory if out of memory, also to begin or to commit a transaction of its own. In the open transaction 97
     /// TransactionEnded if it has ended. Nothing has changed then, or the open transaction has ended; but if the disk
     /// fails within a commit, the file has the tables from before or those after the call.
-    pub fn carry_out(
-        self,
-        alloc: Global,
-        call: TableCall,
-    ) -> (Service<S>, Result<Vec<u8>, Refused>)
+    pub fn carry_out(self, alloc: Global, call: TableCall) -> (Service<S>, Result<Vec<u8>, Refused>)
         ensures { CarriesCall S.Store self call result.1 result.0 }
     {
         match self {

@@ -1,11 +1,9 @@
 -- `applying::met_conflicts`: the next conflict is read, or there is no memory for it.
-use Rattle.std.proofs.Common.{◌≡◌, ◌≤◌, List, map, take, length, Ok, Err, inr, sym, ap, subst}
+use Rattle.std.proofs.Common.{◌≤◌, List, map, length, Ok, subst}
 use Rattle.std.proofs.lemmas.List.{take_all}
 use Rattle.std.proofs.lemmas.Result.{err_from_is_err_and}
 use Rattle.sqlite.specs.Held.{state}
 use Rattle.cs_apply_engine.specs.declared.conflict.Met.{Met}
-use Rattle.cs_calls_answers.specs.Refusals.{out_of_memory}
-use Rattle.cs_calls_answers.specs.declared.conflicts.MetConflict.{MetConflict}
 use Rattle.cs_calls_conversions.specs.Conflicts.{met_by}
 use Rattle.cs_calls_executor.specs.Answered.{Reads}
 use Rattle.cs_calls_executor.proofs.ApplyLemmas.{failed_read, more_read, none_read, unkept_read}

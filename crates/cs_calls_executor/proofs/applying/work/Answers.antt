@@ -1,5 +1,4 @@
 -- `applying::work`: the file is run, and its report or its fault is read of the tables.
-use Rattle.std.proofs.Common.{Ok, Err}
 use Rattle.std.proofs.lemmas.Result.{err_from_is_err_and}
 use Rattle.sqlite.specs.Held.{state}
 use Rattle.cs_calls_executor.proofs.WorkLemmas.{conflict_works, fault_works, given_works, run_open, unread_works, unreported_works}

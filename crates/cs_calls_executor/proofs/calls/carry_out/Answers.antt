@@ -1,6 +1,5 @@
 -- `calls::carry_out`: a read is answered or refused, an edit is refused before or after its answer is made, or a file is
 -- applied.
-use Rattle.std.proofs.Common.{Ok, Err}
 use Rattle.std.proofs.lemmas.Result.{err_from_is_err_and}
 use Rattle.sqlite.specs.Held.{state}
 use Rattle.cs_calls_executor.proofs.CallLemmas.{edit_refused_carries, read_given_carries, read_refused_carries, unstarted_carries}

@@ -1,5 +1,5 @@
 -- `calls::read`: what is read is answered.
-use Rattle.std.proofs.Common.{option_map, rules}
+use Rattle.std.proofs.Common.{option_map}
 use Rattle.sqlite.specs.Held.{state}
 use Rattle.cs_calls_answers.specs.declared.answer.Answer.TheVariants as answer
 use Rattle.cs_calls_executor.specs.Calls.{page_answer}
