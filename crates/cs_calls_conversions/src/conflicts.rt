@@ -35,8 +35,8 @@ fn image_key(alloc: Global, flags: &[u8], image: &Image) -> Result<Row, NoMemory
     Ok(Row::new(values))
 }
 
-/// Returns the values of the key columns of a change. There is a flag for each column, and those other than 0 mark the
-/// key columns.
+/// Returns the values of the key columns of a change. Flags other than 0 mark the key columns; a column past the last
+/// flag is none.
 ///
 /// # Errors
 ///

@@ -1,5 +1,5 @@
 -- Calls on tables, by their reads and edits.
-use Rattle.std.proofs.Common.{◌≡◌, ◌⊎◌, inl, inr, ℕ, Vec, Global, IsTrue, false, true≢false, Result, Ok, Err, IfOk, IfErr, refl, sym, ap, subst, ◌∙◌}
+use Rattle.std.proofs.Common.{◌≡◌, ◌⊎◌, inl, inr, ℕ, Vec, Global, IsTrue, false, true≢false, Result, Ok, Err, IfOk, IfErr, refl, sym, ap, subst, arith, ◌∙◌}
 use Rattle.sqlite.specs.Effect.{Database}
 use Rattle.sqlite.specs.State as sqlite
 use Rattle.sqlite.specs.State.{HasCleanDisk, IsUnchanged}
@@ -10,13 +10,13 @@ use Rattle.cs_calls_answers.specs.declared.answer.Answer.{Answer}
 use Rattle.cs_calls_answers.specs.declared.answer.Answer.TheVariants.{Done}
 use Rattle.cs_calls_answers.specs.declared.answer.Refused.{Refused}
 use Rattle.cs_calls_answers.specs.Refusals.{plain_refusal, out_of_memory}
-use Rattle.cs_calls_answers.specs.Spelling.{HasCounts, answer_bytes}
+use Rattle.cs_calls_answers.specs.Spelling.{HasCounts, number_of, parts_of}
 use Rattle.cs_calls_executor.specs.declared.calls.ReadCall.{ReadCall}
 use Rattle.cs_calls_executor.specs.declared.calls.EditCall.{EditCall}
 use Rattle.cs_calls_executor.specs.declared.calls.TableCall.{TableCall}
 use Rattle.cs_calls_executor.specs.declared.calls.TableCall.TheVariants.{Read, Edit}
 use Rattle.cs_calls_executor.specs.Answered.{IsAnswered, IsResource, Makes, MayEnd, Reads}
-use Rattle.cs_calls_executor.specs.Calls.{Answers, CarriesOut, EditsTo, IsRefusal, IsUnsent, answered_as, read_answer}
+use Rattle.cs_calls_executor.specs.Calls.{Answers, CarriesOut, EditsTo, IsRefusal, IsTooLong, IsUnsent, Spells, answered_as, read_answer}
 use Rattle.cs_calls_executor.proofs.EditLemmas.{answered, may_end, rested_within, within_made, within_refused}
 use Rattle.cs_calls_executor.proofs.ReadLemmas.{no_memory, reads_on, reads_refused}
 
@@ -32,7 +32,7 @@ read_passed {X} make first old new why one = reads_refused first (λ tables. ans
 
 -- no answer is sent
 pub unsent : (call : TableCall) (tables made : State) (given : Answer) (why : Refused) → Answers call tables given made → IsUnsent given why → IsRefusal call tables why
-unsent call tables made given why answers (inl long) = inr (inl (given, made, answers, long.1, long.0))
+unsent call tables made given why answers (inl long) = inr (inl ((given, made, answers, long.1), long.0))
 unsent call tables made given why answers (inr memory) = inr (inr (subst IsResource (sym memory) no_memory))
 
 -- one that has ended
@@ -80,14 +80,14 @@ module _ (old new : sqlite.State) (settled : HasCleanDisk old → old.in_transac
     }
 
     -- it is sent
-    sent_carries : (bytes : Vec ℕ Global) → bytes.items ≡ answer_bytes given → CarriesOut (Read call) old new (Ok bytes)
+    sent_carries : (bytes : Vec ℕ Global) → Spells given bytes → CarriesOut (Read call) old new (Ok bytes)
     sent_carries bytes sent = record {
       within = record {
         kept = one.kept;
         made = λ clean.
             let it = is_given clean in (
               record { is_open = it.1.0.is_open; inside = subst IsTrue (sym it.1.0.mode) inside },
-              record { given = given; answers = (it.0, ap (λ (db : Database). tables_in db) it.1.0.now_is); sent = sent },
+              record { given = given; answers = (it.0, ap (λ (db : Database). tables_in db) it.1.0.now_is); counts = sent.0; sent = sent.1 },
             );
         back = λ clean. tt;
         ended = λ clean. tt;
@@ -98,7 +98,7 @@ module _ (old new : sqlite.State) (settled : HasCleanDisk old → old.in_transac
       spelled = (given, sent);
     }
 
-    pub read_given_carries : (result : Result (Vec ℕ Global) Refused) → IfOk result (λ bytes. bytes.items ≡ answer_bytes given) → IfErr result (IsUnsent given) → CarriesOut (Read call) old new result
+    pub read_given_carries : (result : Result (Vec ℕ Global) Refused) → IfOk result (Spells given) → IfErr result (IsUnsent given) → CarriesOut (Read call) old new result
     read_given_carries (Ok bytes) sent short = sent_carries bytes sent
     read_given_carries (Err why) sent short = unsent_carries why short
 
@@ -116,27 +116,31 @@ module _ (old new : sqlite.State) (settled : HasCleanDisk old → old.in_transac
       passed (inr resource) = inr (inr resource)
 
   -- it is done
-  pub edit_made_carries : {X : Type 0} (call : EditCall) (x : X) (bytes : Vec ℕ Global) → bytes.items ≡ answer_bytes Done → Makes (λ tables outcome. EditsTo call tables outcome) old new (Ok x) → CarriesOut (Edit call) old new (Ok bytes)
+  pub edit_made_carries : {X : Type 0} (call : EditCall) (x : X) (bytes : Vec ℕ Global) → Spells Done bytes → Makes (λ tables outcome. EditsTo call tables outcome) old new (Ok x) → CarriesOut (Edit call) old new (Ok bytes)
   edit_made_carries call x bytes sent one = record {
-    within = within_made (λ made. EditsTo call (tables_in old.now) (Ok made)) _ MayEnd old new x bytes (λ made it. record { given = Done; answers = (refl, it); sent = sent }) one.within;
+    within = within_made (λ made. EditsTo call (tables_in old.now) (Ok made)) _ MayEnd old new x bytes (λ made it. record { given = Done; answers = (refl, it); counts = sent.0; sent = sent.1 }) one.within;
     refused = λ clean is. tt;
     ended = is_open;
     spelled = (Done, sent);
   }
 
+-- *done* is one byte
+done_short : IsTooLong Done → ⊥
+unfolding HasCounts parts_of number_of
+done_short (inl uncounted) = uncounted tt
+done_short (inr long) = omega (arith, long)
+
 -- there is no memory for the answer of an edit
 pub unstarted_carries : (old : sqlite.State) (call : TableCall) (why : Refused) → (HasCleanDisk old → old.in_transaction ≡ false → IsTrue old.is_open → old.now ≡ old.committed) → IsTrue old.in_transaction → IsUnsent Done why → CarriesOut call old old (Err why)
-unfolding HasCounts
 unstarted_carries old call why settled inside short = record {
   within = same_within why _ MayEnd old settled;
-  refused = λ clean is. inr (inr (elim short [ inl long ↦ absurd (long.1 tt) | inr memory ↦ subst IsResource (sym memory) no_memory ]));
+  refused = λ clean is. inr (inr (elim short [ inl long ↦ absurd (done_short long.1) | inr memory ↦ subst IsResource (sym memory) no_memory ]));
   ended = λ out. absurd (true≢false (sym inside ∙ out));
   spelled = tt;
 }
 
 -- the answer *done* is not sent for memory only
 pub done_unsent : (result : Result (Vec ℕ Global) Refused) → IfErr result (IsUnsent Done) → IfErr result (λ why. why ≡ out_of_memory)
-unfolding HasCounts
 done_unsent (Ok bytes) short = tt
-done_unsent (Err why) (inl long) = absurd (long.1 tt)
+done_unsent (Err why) (inl long) = absurd (done_short long.1)
 done_unsent (Err why) (inr memory) = memory

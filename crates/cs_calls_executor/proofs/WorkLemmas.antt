@@ -6,7 +6,7 @@ use Rattle.sqlite.specs.State.{HasCleanDisk, IsUnchanged}
 use Rattle.cs_value.specs.State.{State}
 use Rattle.cs_rows.specs.declared.fault.StoreError.TheVariants.{NoMemory, DamagedStore}
 use Rattle.cs_store.specs.Laws.{keeps_then, was_clean}
-use Rattle.cs_store.specs.Store.{tables_in}
+use Rattle.cs_store.specs.Store.{KeepsStore, tables_in}
 use Rattle.cs_store.specs.Within.{Within}
 use Rattle.cs_apply.specs.Crash.{AppliesInto}
 use Rattle.cs_apply_engine.specs.declared.conflict.Conflict.{Conflict}
@@ -17,13 +17,12 @@ use Rattle.cs_apply_engine.specs.Steps.{IsStoreRefusal}
 use Rattle.cs_calls_answers.specs.declared.answer.Answer.{Answer}
 use Rattle.cs_calls_answers.specs.declared.answer.Answer.TheVariants as answer
 use Rattle.cs_calls_answers.specs.declared.answer.Refused.{Refused}
-use Rattle.cs_calls_answers.specs.Spelling.{answer_bytes}
 use Rattle.cs_calls_conversions.specs.Conflicts.{of_apply_fault, of_conflict, reported_by}
 use Rattle.cs_calls_executor.specs.declared.applying.ApplyCall.{ApplyCall}
 use Rattle.cs_calls_executor.specs.declared.calls.TableCall.TheVariants.{Apply}
 use Rattle.cs_calls_executor.specs.Answered.{IsAnswered, IsOpen, IsResource, MayEnd, Reads}
 use Rattle.cs_calls_executor.specs.Applying.{AppliesAs, IsToldBy, RefusesAs, chooses, direction_of, file_of, noop_of}
-use Rattle.cs_calls_executor.specs.Calls.{IsUnsent, Works}
+use Rattle.cs_calls_executor.specs.Calls.{IsUnsent, Spells, Works}
 use Rattle.cs_calls_executor.proofs.CallLemmas.{unsent}
 use Rattle.cs_calls_executor.proofs.EditLemmas.{answered, may_end}
 use Rattle.cs_calls_executor.proofs.ReadLemmas.{from_ok, okay}
@@ -79,6 +78,20 @@ module _ (call : ApplyCall) (old mid : sqlite.State) where
   }
 
   module _ (new : sqlite.State) where
+    -- what is to be reported is not read
+    pub stopped_works : {X : Type 0} (told : State → X) (why : Refused) → KeepsStore old mid → Reads {X = X} (λ tables. Ok (told tables)) mid new (Err why) → Works call old new (Err why)
+    stopped_works {X} told why kept two = record {
+      kept = keeps_then kept two.kept;
+      made = λ clean. tt;
+      goes_on = λ clean inside. inl (may_end why (short (two.given clean)));
+      refused = λ clean inside. inr (inr (short (two.given clean)));
+      spelled = tt;
+    }
+      where
+        short : IsAnswered {X = X} (Ok (told (tables_in mid.now))) mid new (Err why) → IsResource why
+        short (inl is) = absurd (let e = is.0 in cc)
+        short (inr resource) = resource
+
     -- it names one, whose key is read
     module _ (e : ApplyFault) (code : ℕ) (k : Conflict) (one : IsRun (Err e)) (refused : HasCleanDisk mid → RefusesAs call (tables_in old.now) e) (told : IsToldBy (Err (code, k)) e) where
       on : HasCleanDisk mid → IsTrue old.in_transaction → IsTrue mid.in_transaction
@@ -106,35 +119,7 @@ module _ (call : ApplyCall) (old mid : sqlite.State) where
               ∙ ap (λ (db : Database). of_conflict code (tables_in db) k) (one.back (was clean) inside)
               ∙ told_is (tables_in old.now) e code k told
 
-      -- the key is not read
-      pub unread_works : (why : Refused) → Reads {X = Refused} (λ tables. Ok (of_conflict code tables k)) mid new (Err why) → Works call old new (Err why)
-      unread_works why two = record {
-        kept = keeps_then one.kept two.kept;
-        made = λ clean. tt;
-        goes_on = λ clean inside. inl (may_end why (short (two.given clean)));
-        refused = λ clean inside. inr (inr (short (two.given clean)));
-        spelled = tt;
-      }
-        where
-          short : IsAnswered (Ok (of_conflict code (tables_in mid.now) k)) mid new (Err why) → IsResource why
-          short (inl is) = absurd (let e = is.0 in cc)
-          short (inr resource) = resource
-
     module _ (report : Report) (one : IsRun (Ok report)) (applied : HasCleanDisk mid → AppliesAs call (tables_in old.now) report (tables_in mid.now)) where
-      -- the report is not read
-      pub unreported_works : (why : Refused) → Reads {X = Answer} (λ tables. Ok (answer.Report (reported_by tables report))) mid new (Err why) → Works call old new (Err why)
-      unreported_works why two = record {
-        kept = keeps_then one.kept two.kept;
-        made = λ clean. tt;
-        goes_on = λ clean inside. inl (may_end why (short (two.given clean)));
-        refused = λ clean inside. inr (inr (short (two.given clean)));
-        spelled = tt;
-      }
-        where
-          short : IsAnswered (Ok (answer.Report (reported_by (tables_in mid.now) report))) mid new (Err why) → IsResource why
-          short (inl is) = absurd (let e = is.0 in cc)
-          short (inr resource) = resource
-
       module _ (given : Answer) (two : Reads (λ tables. Ok (answer.Report (reported_by tables report))) mid new (Ok given)) where
         was : HasCleanDisk new → HasCleanDisk mid
         was clean = was_clean mid new two.kept.crash clean
@@ -154,10 +139,10 @@ module _ (call : ApplyCall) (old mid : sqlite.State) where
         )
 
         -- it is sent
-        reported_works : (bytes : Vec ℕ Global) → bytes.items ≡ answer_bytes given → Works call old new (Ok bytes)
+        reported_works : (bytes : Vec ℕ Global) → Spells given bytes → Works call old new (Ok bytes)
         reported_works bytes sent = record {
           kept = keeps_then one.kept two.kept;
-          made = λ clean. (inside_new clean, record { given = given; answers = answers clean; sent = sent });
+          made = λ clean. (inside_new clean, record { given = given; answers = answers clean; counts = sent.0; sent = sent.1 });
           goes_on = λ clean inside. tt;
           refused = λ clean inside. tt;
           spelled = (given, sent);
@@ -173,6 +158,6 @@ module _ (call : ApplyCall) (old mid : sqlite.State) where
           spelled = tt;
         }
 
-        pub given_works : (result : Result (Vec ℕ Global) Refused) → IfOk result (λ bytes. bytes.items ≡ answer_bytes given) → IfErr result (IsUnsent given) → Works call old new result
+        pub given_works : (result : Result (Vec ℕ Global) Refused) → IfOk result (Spells given) → IfErr result (IsUnsent given) → Works call old new result
         given_works (Ok bytes) sent short = reported_works bytes sent
         given_works (Err why) sent short = unsent_works why short

@@ -1,5 +1,5 @@
 -- What a call on the tables of a store does: it reads or edits them, or applies a changeset file.
-use Rattle.std.specs.Prelude.{◌≡◌, ◌⊎◌, ℕ, IsTrue, false, List, Result, Ok, Err, IfOk, IfErr, IsErrAnd}
+use Rattle.std.specs.Prelude.{◌≡◌, ◌⊎◌, ◌<◌, ℕ, length, IsTrue, false, List, Result, Ok, Err, IfOk, IfErr, IsErrAnd}
 use Rattle.std.specs.FinMap as map
 use Rattle.std.specs.declared.alloc.Global.{Global}
 use Rattle.std.specs.declared.vec.Vec.{Vec}
@@ -69,28 +69,37 @@ Refuses (Apply call) tables why = RefusesApply call tables why
 
 -- ---- what it does
 
--- no answer is sent: a part of it has no count, or memory ran out
+-- the bytes of an answer
+abbrev pub Spells : Answer → Vec ℕ Global → Type 0
+Spells given bytes = HasCounts given × (bytes.items ≡ answer_bytes given)
+
+-- no frame can hold it: a list of it has no count, or it has too many bytes
+abbrev pub IsTooLong : Answer → Type 0
+IsTooLong given = ¬ HasCounts given ⊎ (4294967295 < length (answer_bytes given))
+
+-- no answer is sent: it is too long, or memory ran out
 abbrev pub IsUnsent : Answer → Refused → Type 0
-IsUnsent given why = ((why ≡ plain_refusal 94) × ¬ HasCounts given) ⊎ (why ≡ out_of_memory)
+IsUnsent given why = ((why ≡ plain_refusal 94) × IsTooLong given) ⊎ (why ≡ out_of_memory)
 
 -- the bytes are those of the answer
 pub record Sends (call : TableCall) (tables : State) (bytes : List ℕ) (made : State) : Type 0 where
   pub given : Answer
   pub answers : Answers call tables given made
+  pub counts : HasCounts given
   pub sent : bytes ≡ answer_bytes given
 
--- the answer has no bytes: a list of it has no count
-abbrev pub IsTooLong : TableCall → State → Refused → Type 0
-IsTooLong call tables why =
-    (given : Answer) × (made : State) × Answers call tables given made × ¬ HasCounts given × (why ≡ plain_refusal 94)
+-- its answer is too long
+abbrev pub HasLongAnswer : TableCall → State → Type 0
+HasLongAnswer call tables = (given : Answer) × (made : State) × Answers call tables given made × IsTooLong given
 
--- why a call is refused: by its definition, since its answer has no bytes, for memory, or by the database
+-- why a call is refused: by its definition, since its answer is too long, for memory, or by the database
 abbrev pub IsRefusal : TableCall → State → Refused → Type 0
-IsRefusal call tables why = Refuses call tables why ⊎ IsTooLong call tables why ⊎ IsResource why
+IsRefusal call tables why =
+    Refuses call tables why ⊎ (HasLongAnswer call tables × (why ≡ plain_refusal 94)) ⊎ IsResource why
 
 -- the bytes are those of an answer
 abbrev pub AreAnswer : Vec ℕ Global → Type 0
-AreAnswer bytes = (given : Answer) × (bytes.items ≡ answer_bytes given)
+AreAnswer bytes = (given : Answer) × Spells given bytes
 
 -- In a transaction that is open: the call is answered, or refused. One that has ended refuses it with 97
 -- TransactionEnded.

@@ -91,7 +91,7 @@ Commits g (InTransaction old) (Ok bytes) (AtRest new) = IsDone bytes × IsCommit
 Commits g (InTransaction old) (Err why) (AtRest new) =
     IsUncommitted why (state g old) (state g new)
     ⊎ ((why ≡ plain_refusal 97) × ((state g old).in_transaction ≡ false) × TakesBack (state g old) (state g new))
-    ⊎ ((why ≡ out_of_memory) × TakesBack (state g old) (state g new))
+    ⊎ ((why ≡ out_of_memory) × IsTrue (state g old).in_transaction × TakesBack (state g old) (state g new))
 Commits g (AtRest old) (Err why) (AtRest new) = (why ≡ plain_refusal 96) × (new ≡ old)
 Commits g old result new = ⊥
 

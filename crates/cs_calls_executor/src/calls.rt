@@ -1,9 +1,8 @@
 //! Calls on tables: each reads them, edits them, or applies a changeset file to them.
 ghost use Rattle.std.specs.Prelude.{◌≡◌, ◌↔◌, IfOk, IfErr};
 ghost use Rattle.sqlite.specs.Held.{state};
-ghost use Rattle.cs_calls_answers.specs.Spelling.{answer_bytes};
 ghost use Rattle.cs_calls_executor.specs.Answered.{Makes, Reads};
-ghost use Rattle.cs_calls_executor.specs.Calls.{CarriesOut, EditsTo, IsUnsent, read_answer};
+ghost use Rattle.cs_calls_executor.specs.Calls.{CarriesOut, EditsTo, IsUnsent, Spells, read_answer};
 
 use crate::applying::{ApplyCall, apply};
 use crate::editing::{declare, delete, insert, put, update};
@@ -120,13 +119,17 @@ fn edit<S: Alter + Drop>(
     }
 }
 
+/// The most bytes of an answer, since a frame holds no more.
+const FRAME_LEN: usize = 4_294_967_295;
+
 /// Returns the bytes of an answer.
 ///
 /// # Errors
 ///
-/// 94 FrameTooLong if a row or a list of it has more than 2147483647 parts, and 60 NoMemory if out of memory.
+/// 94 FrameTooLong if a row or a list of it has more than 2147483647 parts, or if it has more than 4294967295 bytes. 60
+/// NoMemory if out of memory.
 pub fn bytes_of(alloc: Global, answer: &Answer) -> Result<Vec<u8>, Refused>
-    ensures ok { IfOk result (λ bytes. bytes.items ≡ answer_bytes answer.now) }
+    ensures ok { IfOk result (Spells answer.now) }
     ensures err { IfErr result (IsUnsent answer.now) }
 {
     if !has_counts(answer) {
@@ -134,6 +137,9 @@ pub fn bytes_of(alloc: Global, answer: &Answer) -> Result<Vec<u8>, Refused>
     }
     let mut bytes = Vec::new(alloc);
     answer_write(&mut bytes, answer)?;
+    if bytes.len() > FRAME_LEN {
+        return Err(Refused::plain(94));
+    }
     Ok(bytes)
 }
 

@@ -1,4 +1,4 @@
-//! Calls that edit the rows of tables.
+//! Calls that declare tables and edit rows.
 ghost use Rattle.std.specs.Prelude.{◌≡◌, IfOk, string_bytes};
 ghost use Rattle.sqlite.specs.Held.{state};
 ghost use Rattle.cs_rows.specs.Editing.{edited};

@@ -7,7 +7,8 @@
 //! ```
 //!
 //! `reading` has the calls that read, `editing` those that edit, and `applying` those that apply a changeset file.
-//! `calls` carries out any of them, and returns the bytes of the answer. A `service` is a store that answers calls. Each refusal has the parts that `CALLS` of the documents lists.
+//! `calls` carries out any of them, and returns the bytes of the answer. A `service` is a store that answers calls.
+//! Each refusal has the parts that `CALLS` of the documents lists.
 #![tactic(auto)]
 
 mod applying;

@@ -1,5 +1,5 @@
--- `service::Service::commit`: the transaction is committed, or the database refuses.
-use Rattle.std.proofs.Common.{inl}
+-- `service::Service::commit`: the transaction is committed, the database refuses, or there is no memory for the answer.
+use Rattle.std.proofs.Common.{inl, inr}
 use Rattle.sqlite.specs.Held.{state}
 use Rattle.cs_calls_executor.proofs.ServiceLemmas.{still_inside}
 use Rattle.cs_calls_executor.proofs.service.Service.commit.Goals as goal
@@ -22,3 +22,11 @@ returns-in-Err-commit g c =
       atomic = it.unsure;
       stands = it.stands;
     }))
+
+pub returns-in-Err : goal.returns-in-Err
+returns-in-Err g c =
+    rw c.in-InTransaction.is (inr (inr (
+      c.in-Err.ensures.err,
+      still_inside (state g.S.Store c.in-InTransaction.transaction) c.has_ended.result c.has_ended.ensures.value c.if-has_ended.false,
+      record { undone = c.roll_back-in-Err.ensures.undone; crash = c.roll_back-in-Err.ensures.survives },
+    )))
