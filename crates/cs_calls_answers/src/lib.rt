@@ -7,7 +7,8 @@
 //! ```
 //!
 //! `answer` has the answers, `conflicts` the conflicts in them, `lists` their lists, and `refusal` refusals that name
-//! nothing. `reading` reads answers, `writing` writes them, and `counts` has whether they can be written. Their parts are those of [`cs_calls_parts`].
+//! nothing. `reading` reads answers, `writing` writes them, and `counts` has whether they can be
+//! written. Their parts are those of [`cs_calls_parts`].
 #![tactic(auto)]
 
 mod answer;

@@ -123,7 +123,8 @@ fn reported<S: Alter>(
     transaction: &mut Transaction<S>,
     report: &Report,
 ) -> Result<Answer, Refused>
-    ensures { IsOpen (state S.Store transaction.old) → Reads (λ tables. Ok (ReportAnswer (reported_by tables report.now)))
+    ensures { IsOpen (state S.Store transaction.old)
+        → Reads (λ tables. Ok (ReportAnswer (reported_by tables report.now)))
         (state S.Store transaction.old) (state S.Store transaction.new) result }
 {
     let conflicts = met_conflicts(alloc, transaction, &report.conflicts)?;
@@ -208,8 +209,8 @@ fn work<S: Alter + Drop>(
     }
 }
 
-/// Carries out a call that applies a changeset file, after a mark to which a refusal goes back. The transaction has to be
-/// open.
+/// Carries out a call that applies a changeset file, after a mark to which a refusal goes back. The
+/// transaction has to be open.
 pub(crate) fn apply<S: Alter + Drop>(
     alloc: Global,
     transaction: &mut Transaction<S>,

@@ -28,7 +28,8 @@ pub enum ReadCall {
         table: Text,
         key: Row,
     },
-    /// Reads at most so many rows in the order of the bytes of their keys, from the first one or from the one after a key.
+    /// Reads at most so many rows in the order of the bytes of their keys, from the first one or from
+    /// the one after a key.
     Rows {
         table: Text,
         after: Option<Row>,
@@ -69,7 +70,8 @@ fn read<S: Alter>(
     transaction: &mut Transaction<S>,
     call: &ReadCall,
 ) -> Result<Answer, Refused>
-    ensures { Reads (λ tables. read_answer call.now tables) (state S.Store transaction.old) (state S.Store transaction.new) result }
+    ensures { Reads (λ tables. read_answer call.now tables)
+        (state S.Store transaction.old) (state S.Store transaction.new) result }
 {
     match call {
         ReadCall::Tables => {
@@ -108,7 +110,8 @@ fn edit<S: Alter + Drop>(
     transaction: &mut Transaction<S>,
     call: EditCall,
 ) -> Result<(), Refused>
-    ensures { Makes (λ tables outcome. EditsTo call tables outcome) (state S.Store transaction.old) (state S.Store transaction.new) result }
+    ensures { Makes (λ tables outcome. EditsTo call tables outcome)
+        (state S.Store transaction.old) (state S.Store transaction.new) result }
 {
     match call {
         EditCall::Declare { table, columns } => declare(alloc, transaction, &table, &columns),
@@ -126,8 +129,8 @@ const FRAME_LEN: usize = 4_294_967_295;
 ///
 /// # Errors
 ///
-/// 94 FrameTooLong if a row or a list of it has more than 2147483647 parts, or if it has more than 4294967295 bytes. 60
-/// NoMemory if out of memory.
+/// 94 FrameTooLong if a row or a list of it has more than 2147483647 parts, or if it has more than
+/// 4294967295 bytes. 60 NoMemory if out of memory.
 pub fn bytes_of(alloc: Global, answer: &Answer) -> Result<Vec<u8>, Refused>
     ensures ok { IfOk result (Spells answer.now) }
     ensures err { IfErr result (IsUnsent answer.now) }
@@ -147,8 +150,9 @@ pub fn bytes_of(alloc: Global, answer: &Answer) -> Result<Vec<u8>, Refused>
 ///
 /// # Errors
 ///
-/// 97 TransactionEnded if the transaction has ended. Otherwise those of the call, and those of [`bytes_of`]. Nothing has
-/// changed then, or the transaction has ended, and the store is as it was when the transaction began.
+/// 97 TransactionEnded if the transaction has ended. Otherwise those of the call, and those of
+/// [`bytes_of`]. Nothing has changed then, or the transaction has ended, and the store is as it was
+/// when the transaction began.
 pub fn carry_out<S: Alter + Drop>(
     alloc: Global,
     transaction: &mut Transaction<S>,

@@ -35,8 +35,8 @@ impl<S: Alter + Drop> Service<S> {
     ///
     /// # Errors
     ///
-    /// 95 TransactionOpen if one was begun, also if it has ended. 38 StoreFault if the database refuses, and 60 NoMemory
-    /// if out of memory. None is begun then.
+    /// 95 TransactionOpen if one was begun, also if it has ended. 38 StoreFault if the database
+    /// refuses, and 60 NoMemory if out of memory. None is begun then.
     pub fn begin(self, alloc: Global) -> (Service<S>, Result<Vec<u8>, Refused>)
         ensures { Begins S.Store self result.1 result.0 }
     {
@@ -60,9 +60,10 @@ impl<S: Alter + Drop> Service<S> {
     ///
     /// # Errors
     ///
-    /// 96 NoTransaction if none was begun. 97 TransactionEnded if it has ended, 38 StoreFault if the database refuses, and
-    /// 60 NoMemory if out of memory. No transaction is open then, and the store is as when it began. If the disk fails
-    /// within the commit, the file has the tables from before or those of the transaction.
+    /// 96 NoTransaction if none was begun. 97 TransactionEnded if it has ended, 38 StoreFault if the
+    /// database refuses, and 60 NoMemory if out of memory. No transaction is open then, and the store
+    /// is as when it began. If the disk fails within the commit, the file has the tables from before
+    /// or those of the transaction.
     pub fn commit(self, alloc: Global) -> (Service<S>, Result<Vec<u8>, Refused>)
         ensures { Commits S.Store self result.1 result.0 }
     {
@@ -108,10 +109,11 @@ impl<S: Alter + Drop> Service<S> {
     ///
     /// # Errors
     ///
-    /// Those of the call. 94 FrameTooLong if a list of the answer has no count. 38 StoreFault if the database refuses, and
-    /// 60 NoMemory if out of memory, also to begin or to commit a transaction of its own. In the open transaction 97
-    /// TransactionEnded if it has ended. Nothing has changed then, or the open transaction has ended; but if the disk
-    /// fails within a commit, the file has the tables from before or those after the call.
+    /// Those of the call. 94 FrameTooLong if no frame holds the answer. 38 StoreFault if the database
+    /// refuses, and 60 NoMemory if out of memory, also to begin or to commit a transaction of its own.
+    /// In the open transaction 97 TransactionEnded if it has ended. Nothing has changed then, or the
+    /// open transaction has ended. If the disk fails within a commit, the file has the tables from
+    /// before or those after the call.
     pub fn carry_out(self, alloc: Global, call: TableCall) -> (Service<S>, Result<Vec<u8>, Refused>)
         ensures { CarriesCall S.Store self call result.1 result.0 }
     {
