@@ -1,70 +1,30 @@
 //! Calls in turn, on a store in memory. The table t has the columns a, its key, and b, which refuses NULL.
 
-use cs_calls_answers::Refused;
-use cs_calls_executor::{ApplyCall, EditCall, ReadCall, Service, TableCall};
-use cs_calls_requests::{Call, call_read};
+use cs_calls::{Service, answer_call};
 use cs_store::Store;
 use sqlite::MemStore;
 use std::alloc::Global;
-use std::process::Abort;
 
-/// A call on tables, or the call.
-fn table_call(call: Call) -> Result<TableCall, Call> {
-    Ok(match call {
-        Call::Tables => TableCall::Read(ReadCall::Tables),
-        Call::Schema { table } => TableCall::Read(ReadCall::Schema { table }),
-        Call::Get { table, key } => TableCall::Read(ReadCall::Get { table, key }),
-        Call::Rows {
-            table,
-            after,
-            limit,
-        } => TableCall::Read(ReadCall::Rows {
-            table,
-            after,
-            limit,
-        }),
-        Call::Count { table } => TableCall::Read(ReadCall::Count { table }),
-        Call::Declare { table, columns } => TableCall::Edit(EditCall::Declare { table, columns }),
-        Call::Insert { table, row } => TableCall::Edit(EditCall::Insert { table, row }),
-        Call::Update { table, key, row } => TableCall::Edit(EditCall::Update { table, key, row }),
-        Call::Delete { table, key } => TableCall::Edit(EditCall::Delete { table, key }),
-        Call::Put { table, row } => TableCall::Edit(EditCall::Put { table, row }),
-        Call::Apply { file, noop, policy } => {
-            TableCall::Apply(ApplyCall::Apply { file, noop, policy })
-        }
-        Call::Revert { file } => TableCall::Apply(ApplyCall::Revert { file }),
-        call => return Err(call),
-    })
-}
-
-/// Carries out a call.
-fn respond(
-    alloc: Global,
-    service: Service<MemStore>,
-    call: Call,
-) -> (Service<MemStore>, Result<Vec<u8>, Refused>) {
-    match table_call(call) {
-        Ok(call) => service.carry_out(alloc, call),
-        Err(Call::Begin) => service.begin(alloc),
-        Err(Call::Commit) => service.commit(alloc),
-        Err(Call::RollBack) => service.roll_back(alloc),
-        Err(_) => (service, Err(Refused::plain(0))),
+/// Returns whether the bytes are those of a refusal with the code.
+fn is_refusal(bytes: &[u8], code: u64) -> bool {
+    match bytes {
+        [0x0b, rest @ ..] => rest.starts_with(&code.to_be_bytes()),
+        _ => false,
     }
 }
 
 /// Returns whether the bytes of a call are answered with these, or refused with the code.
 fn is_answered(
-    rt: &(impl Abort + AllocGlobal),
+    alloc: Global,
     service: Service<MemStore>,
     call: &[u8],
     answer: Result<&[u8], u64>,
 ) -> (Service<MemStore>, bool) {
-    let call = call_read(rt.alloc(), call).expect(rt, "a call");
-    let (service, result) = respond(rt.alloc(), service, call);
+    let (service, result) = answer_call(alloc, service, call);
     let is_so = match (result, answer) {
         (Ok(bytes), Ok(wanted)) => bytes.as_slice() == wanted,
-        (Err(refused), Err(code)) => refused.code == code,
-        _ => false,
+        (Ok(bytes), Err(code)) => is_refusal(&bytes, code),
+        (Err(_), _) => false,
     };
     (service, is_so)
 }
@@ -230,14 +190,65 @@ const CALLS: &[(&[u8], Result<&[u8], u64>)] = &[
         b"\x05\x01o\x01\x01\x04\x01\x01\x01",
         Ok(b"\x04\x01\x02\x04\x02\0\0\x03\0\0"),
     ),
+    // A session, and transactions while it is open.
+    (b"\x15", Err(64)),
+    (b"\x12", DONE),
+    (b"\x12", Err(65)),
+    (b"\x13\x01t", DONE),
+    (b"\x13\x01t", Err(50)),
+    (b"\x13\x01u", Err(31)),
+    (b"\x15", Ok(b"\x09\x01")),
+    (b"\x07\x01t\x02\x03\x01r\x03\x01s", DONE),
+    (b"\x15", Ok(b"\x09\x00")),
+    (
+        b"\x14",
+        Ok(b"\x08\x0eT\x02\x01\x00t\0\x12\0\x03\x01r\x03\x01s"),
+    ),
+    (b"\x0b", DONE),
+    (b"\x14", Err(95)),
+    (b"\x16", Err(95)),
+    (b"\x07\x01t\x02\x03\x01p\x03\x01q", DONE),
+    (b"\x0d", DONE),
+    (
+        b"\x14",
+        Ok(b"\x08\x0eT\x02\x01\x00t\0\x12\0\x03\x01r\x03\x01s"),
+    ),
+    (b"\x0b", DONE),
+    (b"\x07\x01t\x02\x03\x01p\x03\x01q", DONE),
+    (b"\x07\x01t\x02\x03\x01p\x03\x01q", Err(33)),
+    (
+        b"\x0e\x0eT\x02\x01\x00t\0\x12\0\x03\x01v\x03\x01w\x00\x02\x02\x02\x02",
+        CLEAN,
+    ),
+    (b"\x0c", DONE),
+    (
+        b"\x14",
+        Ok(
+            b"\x08\x1eT\x02\x01\x00t\0\x12\0\x03\x01r\x03\x01s\x12\0\x03\x01p\x03\x01q\x12\0\x03\x01v\x03\x01w",
+        ),
+    ),
+    (
+        b"\x16",
+        Ok(b"\x06\0\0\0\0\0\0\0\x03\0\0\0\0\0\0\0\0\x00\x00"),
+    ),
+    (b"\x06\x01t", TWO),
+    (b"\x14", Ok(b"\x08\x00")),
+    (b"\x15", Ok(b"\x09\x00")),
+    (b"\x17", DONE),
+    (b"\x17", Err(64)),
+    (b"\x16", Err(64)),
+    (b"\x18", Ok(b"\x0a\0\0\0\0\0\0\0\x01\0\0\0\0\x04\0\0\0")),
+    // Bytes that are no call.
+    (b"\x19", Ok(b"\x0c\0\0\0\0\0\0\0\x5b\0\0\0\0\0\0\0\0")),
+    (b"\x06\x01", Ok(b"\x0c\0\0\0\0\0\0\0\x01\0\0\0\0\0\0\0\x02")),
 ];
 
 #[test]
 fn carries_out_calls_in_turn(rt: HostRuntime) {
     let store = Store::new_memory(rt.alloc()).expect(&rt, "a store");
-    let mut service = Service::AtRest(store);
+    let mut service = Service::new(store);
     for (at, (call, answer)) in CALLS.iter().enumerate() {
-        let (next, is_so) = is_answered(&rt, service, call, *answer);
+        let (next, is_so) = is_answered(rt.alloc(), service, call, *answer);
         assert!(rt; is_so, "at {at}");
         service = next;
     }

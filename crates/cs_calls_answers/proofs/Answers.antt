@@ -13,30 +13,20 @@ use Rattle.cs_value.specs.Spelling.{counted}
 use Rattle.cs_apply_conflict_kinds.specs.declared.conflict.Choice.{Choice}
 use Rattle.cs_apply_conflict_kinds.specs.declared.conflict.Kind.{Kind}
 use Rattle.cs_calls_parts.specs.declared.fault.CallFaultKind.TheVariants.{UnknownAnswer, ExtraBytes}
-use Rattle.cs_calls_parts.specs.Spelling.{IsText, IsFile, IsList, IsColumn, list_bytes, row_bytes, option_bytes, wide_bytes, flag_bytes, kind_bytes, choice_bytes, column_bytes}
-use Rattle.cs_calls_parts.specs.Reading.{◌>>=◌, misread, counted_of, text_of, list_of, row_of, option_of, wide_of, flag_of, kind_of, choice_of, column_of}
+use Rattle.cs_calls_parts.specs.Spelling.{FoundCounts, IsFound, IsRowList, IsWide, found_bytes, IsText, IsFile, IsList, IsColumn, list_bytes, row_bytes, option_bytes, wide_bytes, flag_bytes, kind_bytes, choice_bytes, column_bytes}
+use Rattle.cs_calls_parts.specs.Reading.{◌>>=◌, misread, counted_of, text_of, list_of, row_of, option_of, wide_of, flag_of, kind_of, choice_of, column_of, found_of}
 use Rattle.cs_calls_parts.proofs.Steps.{done, given, Takes, Takes-then, not_value, bind_ok, wanted_ok}
+use Rattle.cs_calls_parts.proofs.ConflictCodecs.{codec_found, codec_row_option, few_option, found_counts, regrouped4, regrouped5}
 use Rattle.cs_calls_parts.proofs.Codecs.{IsCodec, Always, step, codec_counted, codec_text, codec_list, codec_row, codec_option, codec_wide, codec_flag, codec_kind, codec_choice, codec_column}
 use Rattle.cs_calls_answers.specs.declared.answer.Answer.{Answer}
 use Rattle.cs_calls_answers.specs.declared.answer.Answer.TheVariants as answer
 use Rattle.cs_calls_answers.specs.declared.answer.Reported.{Reported}
 use Rattle.cs_calls_answers.specs.declared.answer.Refused.{Refused}
 use Rattle.cs_calls_answers.specs.declared.conflicts.MetConflict.{MetConflict}
-use Rattle.cs_calls_answers.specs.declared.conflicts.FoundConflict.{FoundConflict}
+use Rattle.cs_calls_parts.specs.declared.conflicts.FoundConflict.{FoundConflict}
 use Rattle.cs_calls_answers.specs.Laws.{AnswerBytes}
-use Rattle.cs_calls_answers.specs.Spelling.{HasCounts, MetCounts, FoundCounts, IsWide, IsRowList, IsMet, IsFound, IsReport, IsRefused, IsAnswer, met_bytes, found_bytes, report_bytes, refused_bytes, number_of, parts_of, answer_bytes}
-use Rattle.cs_calls_answers.specs.Reading.{met_of, found_of, report_of, refused_of, names_of, schema_of, found_row_of, rows_of, count_of, reported_of, conflicts_of, changeset_of, said_of, limits_of, refusal_of, unread_of, answer_by, answer_at, whole_answer}
-
--- ---- texts after one another
-
-regrouped3 : (a b c rest : List ℕ) → (a ++ b ++ c) ++ rest ≡ a ++ (b ++ (c ++ rest))
-regrouped3 a b c rest = append_assoc (a ++ b) c rest ∙ append_assoc a b (c ++ rest)
-
-regrouped4 : (a b c d rest : List ℕ) → (a ++ b ++ c ++ d) ++ rest ≡ a ++ (b ++ (c ++ (d ++ rest)))
-regrouped4 a b c d rest = append_assoc (a ++ b ++ c) d rest ∙ regrouped3 a b c (d ++ rest)
-
-regrouped5 : (a b c d e rest : List ℕ) → (a ++ b ++ c ++ d ++ e) ++ rest ≡ a ++ (b ++ (c ++ (d ++ (e ++ rest))))
-regrouped5 a b c d e rest = append_assoc (a ++ b ++ c ++ d) e rest ∙ regrouped4 a b c d (e ++ rest)
+use Rattle.cs_calls_answers.specs.Spelling.{HasCounts, MetCounts, IsMet, IsReport, IsRefused, IsAnswer, met_bytes, report_bytes, refused_bytes, number_of, parts_of, answer_bytes}
+use Rattle.cs_calls_answers.specs.Reading.{met_of, report_of, refused_of, names_of, schema_of, found_row_of, rows_of, count_of, reported_of, conflicts_of, changeset_of, said_of, limits_of, refusal_of, unread_of, answer_by, answer_at, whole_answer}
 
 -- ---- conflicts
 
@@ -66,39 +56,6 @@ met_again met rest is =
 
 codec_met : IsCodec IsMet met_bytes met_of
 codec_met = record { takes = met_takes; again = met_again }
-
-codec_row_option : IsCodec (λ o. IfSome o IsRowList) (option_bytes row_bytes) (option_of row_of)
-codec_row_option = codec_option IsRowList row_bytes row_of codec_row
-
-abbrev found_with : ℕ → Kind → List ℕ → List OwnedValue → Option (List OwnedValue) → FoundConflict
-found_with index kind table key current = record { index = index; kind = kind; table = table; key = key; current = current }
-
-found_takes : (bytes : List ℕ) (found : FoundConflict) (rest : List ℕ) → AreBytes bytes → found_of bytes ≡ Ok (found, rest) → Takes bytes (found_bytes found) rest × IsFound found
-unfolding found_of found_bytes
-found_takes bytes found rest fits e =
-    let a = step IsWide wide_bytes wide_of codec_wide (λ a. kind_of a.1 >>= λ b. text_of b.1 >>= λ c. row_of c.1 >>= λ d. option_of row_of d.1 >>= λ f. Ok (found_with a.0 b.0 c.0 d.0 f.0, f.1)) bytes (found, rest) fits e in
-    let b = step Always kind_bytes kind_of codec_kind (λ b. text_of b.1 >>= λ c. row_of c.1 >>= λ d. option_of row_of d.1 >>= λ f. Ok (found_with a.value b.0 c.0 d.0 f.0, f.1)) a.rest (found, rest) a.takes.are_bytes a.goes_on in
-    let c = step IsText counted text_of codec_text (λ c. row_of c.1 >>= λ d. option_of row_of d.1 >>= λ f. Ok (found_with a.value b.value c.0 d.0 f.0, f.1)) b.rest (found, rest) b.takes.are_bytes b.goes_on in
-    let d = step IsRowList row_bytes row_of codec_row (λ d. option_of row_of d.1 >>= λ f. Ok (found_with a.value b.value c.value d.0 f.0, f.1)) c.rest (found, rest) c.takes.are_bytes c.goes_on in
-    let f = step (λ o. IfSome o IsRowList) (option_bytes row_bytes) (option_of row_of) codec_row_option (λ f. Ok (found_with a.value b.value c.value d.value f.0, f.1)) d.rest (found, rest) d.takes.are_bytes d.goes_on in
-    let ab = Takes-then bytes (wide_bytes a.value) a.rest (kind_bytes b.value) b.rest a.takes b.takes in
-    let abc = Takes-then bytes (wide_bytes a.value ++ kind_bytes b.value) b.rest (counted c.value) c.rest ab c.takes in
-    let abcd = Takes-then bytes (wide_bytes a.value ++ kind_bytes b.value ++ counted c.value) c.rest (row_bytes d.value) d.rest abc d.takes in
-    let whole = Takes-then bytes (wide_bytes a.value ++ kind_bytes b.value ++ counted c.value ++ row_bytes d.value) d.rest (option_bytes row_bytes f.value) f.rest abcd f.takes in
-    given (λ (p : FoundConflict × List ℕ). Takes bytes (found_bytes p.0) p.1 × IsFound p.0) (found_with a.value b.value c.value d.value f.value, f.rest) (found, rest) f.goes_on (whole, record { index = a.is; table = c.is; key = d.is; current = f.is })
-
-found_again : (found : FoundConflict) (rest : List ℕ) → IsFound found → found_of (found_bytes found ++ rest) ≡ Ok (found, rest)
-unfolding found_of found_bytes
-found_again found rest is =
-    let a = wide_bytes found.index in
-    let b = kind_bytes found.kind in
-    let c = counted found.table in
-    let d = row_bytes found.key in
-    let f = option_bytes row_bytes found.current in
-    ap found_of (regrouped5 a b c d f rest) ∙ rw (codec_wide.again found.index (b ++ (c ++ (d ++ (f ++ rest)))) is.index, codec_kind.again found.kind (c ++ (d ++ (f ++ rest))) tt, codec_text.again found.table (d ++ (f ++ rest)) is.table, codec_row.again found.key (f ++ rest) is.key, codec_row_option.again found.current rest is.current) refl
-
-codec_found : IsCodec IsFound found_bytes found_of
-codec_found = record { takes = found_takes; again = found_again }
 
 -- ---- reports and refusals
 
@@ -357,18 +314,11 @@ answer_bytes_again a is = rw (whole_again a is) refl
 few : (values : List OwnedValue) → IsRowList values → length values ≤ MAX_CONTENT_LEN
 few values is = is.few
 
-few_option : (o : Option (List OwnedValue)) → IfSome o IsRowList → IfSome o (λ values. length values ≤ MAX_CONTENT_LEN)
-few_option None is = tt
-few_option (Some values) is = is.few
-
 all_few : (rows : List (List OwnedValue)) → AllByRecursion IsRowList rows → AllByRecursion (λ row. length row ≤ MAX_CONTENT_LEN) rows
 all_few rows are = AllByRecursion-weaker IsRowList (λ row. length row ≤ MAX_CONTENT_LEN) few rows are
 
 met_counts : (met : MetConflict) → IsMet met → MetCounts met
 met_counts met is = is.key.few
-
-found_counts : (found : FoundConflict) → IsFound found → FoundCounts found
-found_counts found is = record { key = is.key.few; current = few_option found.current is.current }
 
 -- the lists of an answer have counts
 pub answer_counts : (a : Answer) → IsAnswer a → HasCounts a

@@ -5,13 +5,12 @@ use Rattle.cs_calls_parts.specs.declared.fault.CallFault.{CallFault}
 use Rattle.cs_calls_parts.specs.declared.fault.CallFaultKind.TheVariants.{Field, UnknownAnswer, ExtraBytes}
 use Rattle.cs_calls_parts.specs.declared.fault.Misread.{Misread}
 use Rattle.cs_calls_parts.specs.Reading.{◌>>=◌, misread, placed, counted_of, text_of, list_of, row_of, option_of, wide_of}
-use Rattle.cs_calls_parts.specs.Reading.{flag_of, kind_of, choice_of, column_of}
+use Rattle.cs_calls_parts.specs.Reading.{flag_of, kind_of, choice_of, column_of, found_of}
 use Rattle.cs_calls_answers.specs.declared.answer.Answer.{Answer}
 use Rattle.cs_calls_answers.specs.declared.answer.Answer.TheVariants as answer
 use Rattle.cs_calls_answers.specs.declared.answer.Reported.{Reported}
 use Rattle.cs_calls_answers.specs.declared.answer.Refused.{Refused}
 use Rattle.cs_calls_answers.specs.declared.conflicts.MetConflict.{MetConflict}
-use Rattle.cs_calls_answers.specs.declared.conflicts.FoundConflict.{FoundConflict}
 
 unfoldable pub met_of : List ℕ → Result (MetConflict × List ℕ) Misread
 met_of bytes = do
@@ -20,15 +19,6 @@ met_of bytes = do
   table ← text_of choice.1
   key ← row_of table.1
   Ok (record { kind = kind.0; choice = choice.0; table = table.0; key = key.0 }, key.1)
-
-unfoldable pub found_of : List ℕ → Result (FoundConflict × List ℕ) Misread
-found_of bytes = do
-  index ← wide_of bytes
-  kind ← kind_of index.1
-  table ← text_of kind.1
-  key ← row_of table.1
-  current ← option_of row_of key.1
-  Ok (record { index = index.0; kind = kind.0; table = table.0; key = key.0; current = current.0 }, current.1)
 
 unfoldable pub report_of : List ℕ → Result (Reported × List ℕ) Misread
 report_of bytes = do

@@ -1,23 +1,16 @@
 -- The bytes of answers: `docs/CALLS.md` has them in words.
-use Rattle.std.specs.Prelude.{◌≤◌, ◌<◌, ◌^◌, ℕ, List, [], ◌∷◌, ◌++◌, length, IfSome, All}
+use Rattle.std.specs.Prelude.{◌≤◌, ℕ, List, [], ◌∷◌, ◌++◌, length, IfSome, All}
 use Rattle.cs_value.specs.declared.TheConstants.{MAX_CONTENT_LEN}
 use Rattle.cs_value.specs.declared.value.OwnedValue.{OwnedValue}
-use Rattle.cs_value.specs.Value.{IsValue}
 use Rattle.cs_value.specs.Spelling.{counted}
-use Rattle.cs_calls_parts.specs.Spelling.{IsText, IsFile, IsList, IsColumn, list_bytes, row_bytes, option_bytes, wide_bytes}
+use Rattle.cs_calls_parts.specs.Spelling.{FoundCounts, IsColumn, IsFile, IsFound, IsList, IsRowList, IsText, IsWide}
+use Rattle.cs_calls_parts.specs.Spelling.{found_bytes, list_bytes, row_bytes, option_bytes, wide_bytes}
 use Rattle.cs_calls_parts.specs.Spelling.{flag_bytes, kind_bytes, choice_bytes, column_bytes}
 use Rattle.cs_calls_answers.specs.declared.answer.Answer.{Answer}
 use Rattle.cs_calls_answers.specs.declared.answer.Answer.TheVariants as answer
 use Rattle.cs_calls_answers.specs.declared.answer.Reported.{Reported}
 use Rattle.cs_calls_answers.specs.declared.answer.Refused.{Refused}
 use Rattle.cs_calls_answers.specs.declared.conflicts.MetConflict.{MetConflict}
-use Rattle.cs_calls_answers.specs.declared.conflicts.FoundConflict.{FoundConflict}
-
-abbrev pub IsWide : ℕ → Type 0
-IsWide number = number < 2 ^ 64
-
-abbrev pub IsRowList : List OwnedValue → Type 0
-IsRowList values = IsList IsValue values
 
 -- ---- conflicts
 
@@ -30,21 +23,6 @@ pub record IsMet (met : MetConflict) : Type 0 where
 
 abbrev pub MetCounts : MetConflict → Type 0
 MetCounts met = length met.key ≤ MAX_CONTENT_LEN
-
-unfoldable pub found_bytes : FoundConflict → List ℕ
-found_bytes found =
-    wide_bytes found.index ++ kind_bytes found.kind ++ counted found.table ++ row_bytes found.key
-    ++ option_bytes row_bytes found.current
-
-pub record IsFound (found : FoundConflict) : Type 0 where
-  pub index : IsWide found.index
-  pub table : IsText found.table
-  pub key : IsRowList found.key
-  pub current : IfSome found.current IsRowList
-
-pub record FoundCounts (found : FoundConflict) : Type 0 where
-  pub key : length found.key ≤ MAX_CONTENT_LEN
-  pub current : IfSome found.current (λ row. length row ≤ MAX_CONTENT_LEN)
 
 -- ---- reports and refusals
 

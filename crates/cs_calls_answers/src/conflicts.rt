@@ -1,14 +1,14 @@
-//! The conflicts of answers.
-ghost use Rattle.std.specs.Prelude.{◌≡◌, ◌≤◌, ◌++◌, length, OnOk, OnErr, IfSome, take};
+//! The conflicts of reports.
+ghost use Rattle.std.specs.Prelude.{◌≡◌, ◌≤◌, ◌++◌, length, OnOk, OnErr, take};
 ghost use Rattle.cs_value.specs.declared.TheConstants.{MAX_CONTENT_LEN};
 ghost use Rattle.cs_calls_parts.specs.Reading.{Gives};
-ghost use Rattle.cs_calls_answers.specs.Reading.{met_of, found_of};
-ghost use Rattle.cs_calls_answers.specs.Spelling.{met_bytes, found_bytes, MetCounts, FoundCounts};
+ghost use Rattle.cs_calls_answers.specs.Reading.{met_of};
+ghost use Rattle.cs_calls_answers.specs.Spelling.{met_bytes, MetCounts};
 
 use cs_apply_conflict_kinds::{Choice, Kind};
 use cs_calls_parts::{
-    Part, Unread, read_choice, read_kind, read_number, read_option, read_row, read_text,
-    write_choice, write_kind, write_number, write_option, write_row, write_text,
+    Part, Unread, read_choice, read_kind, read_row, read_text, write_choice, write_kind, write_row,
+    write_text,
 };
 use cs_value::{NoMemory, Row, Text};
 use std::alloc::Global;
@@ -21,19 +21,6 @@ pub struct MetConflict {
     pub table: Text,
     /// The values of the key columns.
     pub key: Row,
-}
-
-/// A conflict that an apply would meet.
-#[derive(Drop)]
-pub struct FoundConflict {
-    /// The index of its entry in the file, from 0.
-    pub index: u64,
-    pub kind: Kind,
-    pub table: Text,
-    /// The values of the key columns.
-    pub key: Row,
-    /// The row of the key, if there is one.
-    pub current: Option<Row>,
 }
 
 impl Part for MetConflict {
@@ -64,39 +51,5 @@ impl Part for MetConflict {
         write_choice(out, self.choice)?;
         write_text(out, &self.table)?;
         write_row(out, &self.key)
-    }
-}
-
-impl Part for FoundConflict {
-    ghost part_of = { found_of };
-
-    ghost part_bytes = { found_bytes };
-
-    ghost IsCounted = { FoundCounts };
-
-    #[tactic(auto, unfolding(crate::specs::Reading::found_of))]
-    fn read(alloc: Global, bytes: &[u8]) -> Result<(FoundConflict, &[u8]), Unread> {
-        let (index, rest) = read_number(bytes)?;
-        let (kind, rest) = read_kind(rest)?;
-        let (table, rest) = read_text(alloc, rest)?;
-        let (key, rest) = read_row(alloc, rest)?;
-        let (current, rest) = read_option(alloc, rest)?;
-        let found = FoundConflict {
-            index,
-            kind,
-            table,
-            key,
-            current,
-        };
-        Ok((found, rest))
-    }
-
-    #[tactic(auto, unfolding(crate::specs::Spelling::found_bytes))]
-    fn write(&self, out: &mut Vec<u8>) -> Result<(), NoMemory> {
-        write_number(out, self.index)?;
-        write_kind(out, self.kind)?;
-        write_text(out, &self.table)?;
-        write_row(out, &self.key)?;
-        write_option(out, &self.current)
     }
 }

@@ -1,10 +1,12 @@
 //! Whether an answer can be written: whether each of its rows and lists has a count.
 ghost use Rattle.std.specs.Prelude.{◌≡◌, ◌↔◌, ◌≤◌, IsTrue, IfSome, All, length};
 ghost use Rattle.cs_value.specs.declared.TheConstants.{MAX_CONTENT_LEN as MOST};
-ghost use Rattle.cs_calls_answers.specs.Spelling.{HasCounts, FoundCounts, MetCounts, ReportCounts};
+ghost use Rattle.cs_calls_answers.specs.Spelling.{HasCounts, MetCounts, ReportCounts};
+ghost use Rattle.cs_calls_parts.specs.Spelling.{FoundCounts};
 
 use crate::answer::{Answer, Reported};
-use crate::conflicts::{FoundConflict, MetConflict};
+use crate::conflicts::MetConflict;
+use cs_calls_parts::FoundConflict;
 use cs_value::{MAX_CONTENT_LEN, Row};
 
 /// Returns whether the values of a row have a count.

@@ -6,7 +6,7 @@
 //! answer_write(&mut out, &answer)?;
 //! ```
 //!
-//! `answer` has the answers, `conflicts` the conflicts in them, `lists` their lists, and `refusal` refusals that name
+//! `answer` has the answers, `conflicts` those of reports, `lists` their lists, and `refusal` refusals that name
 //! nothing. `reading` reads answers, `writing` writes them, and `counts` has whether they can be
 //! written. Their parts are those of [`cs_calls_parts`].
 #![tactic(auto)]
@@ -21,9 +21,9 @@ mod refusal;
 mod writing;
 
 pub use answer::{Answer, Refused, Reported};
-pub use conflicts::{FoundConflict, MetConflict};
+pub use conflicts::MetConflict;
 pub use counts::has_counts;
-pub use cs_calls_parts::{CallError, CallFault, CallFaultKind, Column, Columns};
+pub use cs_calls_parts::{CallError, CallFault, CallFaultKind, Column, Columns, FoundConflict};
 pub use laws::answer_bytes_law;
 pub use lists::{FoundConflicts, MetConflicts, Names, RowList};
 pub use reading::answer_read;

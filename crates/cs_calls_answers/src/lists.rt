@@ -1,7 +1,8 @@
 //! The lists of answers. Contracts see each as a list.
 ghost use Rattle.std.specs.Prelude.{◌≡◌};
 
-use crate::conflicts::{FoundConflict, MetConflict};
+use crate::conflicts::MetConflict;
+use cs_calls_parts::FoundConflict;
 use cs_value::{Row, Text};
 use std::marker::Model;
 
@@ -105,7 +106,7 @@ pub struct FoundConflicts {
 
 impl Model for FoundConflicts {
     ghost use Rattle.std.specs.Prelude.{List, ℕ};
-    ghost use Rattle.cs_calls_answers.specs.declared.conflicts.FoundConflict.{FoundConflict};
+    ghost use Rattle.cs_calls_parts.specs.declared.conflicts.FoundConflict.{FoundConflict};
 
     ghost Value = { List FoundConflict };
 

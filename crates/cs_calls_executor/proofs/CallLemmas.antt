@@ -1,9 +1,13 @@
 -- Calls on tables, by their reads and edits.
-use Rattle.std.proofs.Common.{◌≡◌, ◌⊎◌, inl, inr, ℕ, Vec, Global, IsTrue, false, true≢false, Result, Ok, Err, IfOk, IfErr, refl, sym, ap, subst, arith, ◌∙◌}
+use Rattle.std.proofs.Common.{◌≡◌, ◌⊎◌, inl, inr, ℕ, List, [], map, Bool, true, not, Vec, Global, IsTrue, false, true≢false, Result, Ok, Err, IfOk, IfErr, refl, sym, ap, subst, arith, ◌∙◌}
 use Rattle.sqlite.specs.Effect.{Database}
 use Rattle.sqlite.specs.State as sqlite
 use Rattle.sqlite.specs.State.{HasCleanDisk, IsUnchanged}
 use Rattle.cs_value.specs.State.{State}
+use Rattle.cs_rows.specs.declared.edit.Written.{Written}
+use Rattle.cs_rows.specs.Editing.{Edited, written_of}
+use Rattle.cs_rows.specs.declared.fault.StoreError.{StoreError}
+use Rattle.cs_rows.specs.Faults as stores
 use Rattle.cs_store.specs.Store.{tables_in}
 use Rattle.cs_store.proofs.WithinLemmas.{same_within}
 use Rattle.cs_calls_answers.specs.declared.answer.Answer.{Answer}
@@ -11,13 +15,15 @@ use Rattle.cs_calls_answers.specs.declared.answer.Answer.TheVariants.{Done}
 use Rattle.cs_calls_answers.specs.declared.answer.Refused.{Refused}
 use Rattle.cs_calls_answers.specs.Refusals.{plain_refusal, out_of_memory}
 use Rattle.cs_calls_answers.specs.Spelling.{HasCounts, number_of, parts_of}
+use Rattle.cs_calls_conversions.specs.Refusals.{of_error}
 use Rattle.cs_calls_executor.specs.declared.calls.ReadCall.{ReadCall}
 use Rattle.cs_calls_executor.specs.declared.calls.EditCall.{EditCall}
 use Rattle.cs_calls_executor.specs.declared.calls.TableCall.{TableCall}
 use Rattle.cs_calls_executor.specs.declared.calls.TableCall.TheVariants.{Read, Edit}
-use Rattle.cs_calls_executor.specs.Answered.{IsAnswered, IsResource, Makes, MayEnd, Reads}
+use Rattle.cs_calls_executor.specs.declared.calls.Carried.{Carried}
+use Rattle.cs_calls_executor.specs.Answered.{IsAnswered, IsResource, Makes, MayEnd, Reads, edited_as}
 use Rattle.cs_calls_executor.specs.Calls.{Answers, CarriesOut, EditsTo, IsRefusal, IsTooLong, IsUnsent, Spells, answered_as, read_answer}
-use Rattle.cs_calls_executor.proofs.EditLemmas.{answered, may_end, rested_within, within_made, within_refused}
+use Rattle.cs_calls_executor.proofs.EditLemmas.{answered, may_end, rested_within, within_refused}
 use Rattle.cs_calls_executor.proofs.ReadLemmas.{no_memory, reads_on, reads_refused}
 
 -- ---- what is read is answered
@@ -28,10 +34,22 @@ read_made {X} make first old new x one = reads_on first (λ tables. answered_as 
 pub read_passed : {X : Type 0} (make : X → Answer) (first : State → Result X Refused) (old new : sqlite.State) (why : Refused) → Reads first old new (Err why) → Reads (λ tables. answered_as make (first tables)) old new (Err why)
 read_passed {X} make first old new why one = reads_refused first (λ tables. answered_as make (first tables)) old new why (λ tables missing. ap (λ (r : Result X Refused). answered_as make r) missing) one
 
+-- a refusal of the database, or for memory
+pub resource : (error : StoreError) (why : Refused) → why ≡ of_error error → stores.IsResource error → IsResource why
+resource error why is of = record { error = error; of = of; is = is }
+
+-- a transaction that has not ended is open
+pub still_inside : (s : sqlite.State) (ended : Bool) → ended ≡ not s.in_transaction → ended ≡ false → IsTrue s.in_transaction
+still_inside s ended is none = at s.in_transaction (sym is ∙ none)
+  where
+    at : (b : Bool) → not b ≡ false → b ≡ true
+    at true e = refl
+    at false e = absurd (true≢false e)
+
 -- ---- a call in a transaction
 
 -- no answer is sent
-pub unsent : (call : TableCall) (tables made : State) (given : Answer) (why : Refused) → Answers call tables given made → IsUnsent given why → IsRefusal call tables why
+pub unsent : (call : TableCall) (tables : State) (made : Edited) (given : Answer) (why : Refused) → Answers call tables given made → IsUnsent given why → IsRefusal call tables why
 unsent call tables made given why answers (inl long) = inr (inl ((given, made, answers, long.1), long.0))
 unsent call tables made given why answers (inr memory) = inr (inr (subst IsResource (sym memory) no_memory))
 
@@ -71,23 +89,23 @@ module _ (old new : sqlite.State) (settled : HasCleanDisk old → old.in_transac
     is_given clean = answered (λ tables. read_answer call tables) old new given one clean
 
     -- its answer is not sent
-    unsent_carries : (why : Refused) → IsUnsent given why → CarriesOut (Read call) old new (Err why)
+    pub unsent_carries : (why : Refused) → IsUnsent given why → CarriesOut (Read call) old new (Err why)
     unsent_carries why short = record {
       within = rested_within why _ old new one.kept one.rests settled (λ clean. inl (is_given clean).1);
-      refused = λ clean is. unsent (Read call) (tables_in old.now) (tables_in old.now) given why ((is_given clean).0, refl) short;
+      refused = λ clean is. unsent (Read call) (tables_in old.now) (record { state = tables_in old.now; written = [] }) given why ((is_given clean).0, refl, refl) short;
       ended = is_open;
       spelled = tt;
     }
 
     -- it is sent
-    sent_carries : (bytes : Vec ℕ Global) → Spells given bytes → CarriesOut (Read call) old new (Ok bytes)
-    sent_carries bytes sent = record {
+    pub sent_carries : (bytes : Vec ℕ Global) (written : Vec Written Global) → written.items ≡ [] → Spells given bytes → CarriesOut (Read call) old new (Ok (record { bytes = bytes; written = written }))
+    sent_carries bytes written none sent = record {
       within = record {
         kept = one.kept;
         made = λ clean.
             let it = is_given clean in (
               record { is_open = it.1.0.is_open; inside = subst IsTrue (sym it.1.0.mode) inside },
-              record { given = given; answers = (it.0, ap (λ (db : Database). tables_in db) it.1.0.now_is); counts = sent.0; sent = sent.1 },
+              record { given = given; answers = (it.0, ap (λ (db : Database). tables_in db) it.1.0.now_is, ap (map written_of) none); counts = sent.0; sent = sent.1 },
             );
         back = λ clean. tt;
         ended = λ clean. tt;
@@ -98,14 +116,10 @@ module _ (old new : sqlite.State) (settled : HasCleanDisk old → old.in_transac
       spelled = (given, sent);
     }
 
-    pub read_given_carries : (result : Result (Vec ℕ Global) Refused) → IfOk result (Spells given) → IfErr result (IsUnsent given) → CarriesOut (Read call) old new result
-    read_given_carries (Ok bytes) sent short = sent_carries bytes sent
-    read_given_carries (Err why) sent short = unsent_carries why short
-
   -- an edit is refused
-  pub edit_refused_carries : {X : Type 0} (call : EditCall) (why : Refused) → Makes {X = X} (λ tables outcome. EditsTo call tables outcome) old new (Err why) → CarriesOut (Edit call) old new (Err why)
-  edit_refused_carries {X} call why one = record {
-    within = within_refused {X = X} (λ made. EditsTo call (tables_in old.now) (Ok made)) _ MayEnd old new why why (λ may. may) one.within;
+  pub edit_refused_carries : (call : EditCall) (why : Refused) → Makes (λ tables outcome. EditsTo call tables outcome) old new (Err why) → CarriesOut (Edit call) old new (Err why)
+  edit_refused_carries call why one = record {
+    within = within_refused {X = Vec Written Global} (λ made. Unit {0}) _ MayEnd old new why why (λ may. may) one.within;
     refused = λ clean is. passed (one.refused clean);
     ended = is_open;
     spelled = tt;
@@ -116,9 +130,16 @@ module _ (old new : sqlite.State) (settled : HasCleanDisk old → old.in_transac
       passed (inr resource) = inr (inr resource)
 
   -- it is done
-  pub edit_made_carries : {X : Type 0} (call : EditCall) (x : X) (bytes : Vec ℕ Global) → Spells Done bytes → Makes (λ tables outcome. EditsTo call tables outcome) old new (Ok x) → CarriesOut (Edit call) old new (Ok bytes)
-  edit_made_carries call x bytes sent one = record {
-    within = within_made (λ made. EditsTo call (tables_in old.now) (Ok made)) _ MayEnd old new x bytes (λ made it. record { given = Done; answers = (refl, it); counts = sent.0; sent = sent.1 }) one.within;
+  pub edit_made_carries : (call : EditCall) (written : Vec Written Global) (bytes : Vec ℕ Global) → Spells Done bytes → Makes (λ tables outcome. EditsTo call tables outcome) old new (Ok written)
+      → CarriesOut (Edit call) old new (Ok (record { bytes = bytes; written = written }))
+  edit_made_carries call written bytes sent one = record {
+    within = record {
+      kept = one.within.kept;
+      made = λ clean. ((one.within.made clean).0, record { given = Done; answers = (refl, (one.within.made clean).1); counts = sent.0; sent = sent.1 });
+      back = λ clean. tt;
+      ended = λ clean. tt;
+      goes_on = λ clean inside. tt;
+    };
     refused = λ clean is. tt;
     ended = is_open;
     spelled = (Done, sent);

@@ -1,15 +1,17 @@
 -- An edit that follows reads.
-use Rattle.std.proofs.Common.{◌≡◌, ◌⊎◌, inl, inr, IsTrue, false, true≢false, Result, Ok, Err, IfErr, sym, ap, subst, ◌∙◌}
+use Rattle.std.proofs.Common.{◌≡◌, ◌⊎◌, inl, inr, Vec, Global, IsTrue, false, true≢false, Result, Ok, Err, IfOk, IfErr, sym, ap, subst, ◌∙◌}
 use Rattle.sqlite.specs.Effect.{Database}
 use Rattle.sqlite.specs.State as sqlite
 use Rattle.sqlite.specs.State.{HasCleanDisk, IsUnchanged}
 use Rattle.cs_value.specs.State.{State}
+use Rattle.cs_rows.specs.declared.edit.Written.{Written}
+use Rattle.cs_rows.specs.Editing.{Edited}
 use Rattle.cs_store.specs.Laws.{was_clean, keeps_then}
 use Rattle.cs_store.specs.Records.{Rests, IsUndone}
 use Rattle.cs_store.specs.Store.{KeepsStore, tables_in}
 use Rattle.cs_store.specs.Within.{Within}
 use Rattle.cs_calls_answers.specs.declared.answer.Refused.{Refused}
-use Rattle.cs_calls_executor.specs.Answered.{IsAnswered, IsResource, MayEnd, Reads, Edits}
+use Rattle.cs_calls_executor.specs.Answered.{IsAnswered, IsResource, MayEnd, Reads, Edits, edited_as}
 
 -- a read that was answered changed nothing
 pub answered : {X : Type 0} (first : State → Result X Refused) (old new : sqlite.State) (x : X) → Reads first old new (Ok x) → HasCleanDisk new → (first (tables_in old.now) ≡ Ok x) × IsUnchanged old new
@@ -51,10 +53,16 @@ module _ {X : Type 0} (first : State → Result X Refused) (old mid new : sqlite
     goes_on = λ clean inside. two.goes_on clean (subst IsTrue (sym (same (was_clean mid new two.kept.crash clean)).0.mode) inside);
   }
 
-pub edits_then : {X Y : Type 0} (first : State → Result X Refused) (next second : State → Result State Refused) (old mid new : sqlite.State) (x : X) (result : Result Y Refused)
+-- what holds of a result, if it is one
+on_ok : {Y E : Type 0} (P Q : Y → Type 0) → ((y : Y) → P y → Q y) → (r : Result Y E) → IfOk r P → IfOk r Q
+on_ok P Q so (Ok y) holds = so y holds
+on_ok P Q so (Err e) holds = tt
+
+pub edits_then : {X : Type 0} (first : State → Result X Refused) (next second : State → Result Edited Refused) (old mid new : sqlite.State) (x : X) (result : Result (Vec Written Global) Refused)
     → ((tables : State) → first tables ≡ Ok x → next tables ≡ second tables) → Reads first old mid (Ok x) → Edits second mid new result → Edits next old new result
-edits_then {X} {Y} first next second old mid new x result so one two = record {
-  within = within_then first old mid new x one (λ made. second (tables_in mid.now) ≡ Ok made) (λ made. next (tables_in old.now) ≡ Ok made) MayEnd result (λ clean made is. same clean ∙ is) two.within;
+edits_then {X} first next second old mid new x result so one two = record {
+  within = within_then first old mid new x one (λ made. IfOk result (λ w. second (tables_in mid.now) ≡ Ok (edited_as made w))) (λ made. IfOk result (λ w. next (tables_in old.now) ≡ Ok (edited_as made w))) MayEnd result
+      (λ clean made. on_ok (λ w. second (tables_in mid.now) ≡ Ok (edited_as made w)) (λ w. next (tables_in old.now) ≡ Ok (edited_as made w)) (λ w is. same clean ∙ is) result) two.within;
   refused = λ clean. passed (was_clean mid new two.within.kept.crash clean) result (two.refused clean);
 }
   where
@@ -63,8 +71,8 @@ edits_then {X} {Y} first next second old mid new x result so one two = record {
         let it = answered first old mid x one clean in
         so (tables_in old.now) it.0 ∙ sym (ap (λ (db : Database). second (tables_in db)) it.1.0.now_is)
 
-    passed : HasCleanDisk mid → (r : Result Y Refused) → IfErr r (λ why. (second (tables_in mid.now) ≡ Err why) ⊎ IsResource why) → IfErr r (λ why. (next (tables_in old.now) ≡ Err why) ⊎ IsResource why)
-    passed clean (Ok y) refused = tt
+    passed : HasCleanDisk mid → (r : Result (Vec Written Global) Refused) → IfErr r (λ why. (second (tables_in mid.now) ≡ Err why) ⊎ IsResource why) → IfErr r (λ why. (next (tables_in old.now) ≡ Err why) ⊎ IsResource why)
+    passed clean (Ok w) refused = tt
     passed clean (Err why) (inl is) = inl (same clean ∙ is)
     passed clean (Err why) (inr resource) = inr resource
 
@@ -103,20 +111,20 @@ rested_within {Y} why Makes old new kept rests settled changed = record {
     }
 
 -- the call is refused after a read that was answered
-pub edits_stopped : {X Y : Type 0} (first : State → Result X Refused) (next : State → Result State Refused) (old new : sqlite.State) (x : X) (why : Refused)
+pub edits_stopped : {X : Type 0} (first : State → Result X Refused) (next : State → Result Edited Refused) (old new : sqlite.State) (x : X) (why : Refused)
     → (HasCleanDisk old → old.in_transaction ≡ false → IsTrue old.is_open → old.now ≡ old.committed)
-    → ((tables : State) → first tables ≡ Ok x → (next tables ≡ Err why) ⊎ IsResource why) → Reads first old new (Ok x) → Edits {X = Y} next old new (Err why)
-edits_stopped {X} {Y} first next old new x why settled so one = record {
-  within = rested_within why (λ made. next (tables_in old.now) ≡ Ok made) old new one.kept one.rests settled (λ clean. inl (answered first old new x one clean).1);
+    → ((tables : State) → first tables ≡ Ok x → (next tables ≡ Err why) ⊎ IsResource why) → Reads first old new (Ok x) → Edits next old new (Err why)
+edits_stopped {X} first next old new x why settled so one = record {
+  within = rested_within why _ old new one.kept one.rests settled (λ clean. inl (answered first old new x one clean).1);
   refused = λ clean. so (tables_in old.now) (answered first old new x one clean).0;
 }
 
 -- or the read is
-pub edits_refused : {X Y : Type 0} (first : State → Result X Refused) (next : State → Result State Refused) (old new : sqlite.State) (why : Refused)
+pub edits_refused : {X : Type 0} (first : State → Result X Refused) (next : State → Result Edited Refused) (old new : sqlite.State) (why : Refused)
     → (HasCleanDisk old → old.in_transaction ≡ false → IsTrue old.is_open → old.now ≡ old.committed)
-    → ((tables : State) → first tables ≡ Err why → next tables ≡ Err why) → Reads first old new (Err why) → Edits {X = Y} next old new (Err why)
-edits_refused {X} {Y} first next old new why settled so one = record {
-  within = rested_within why (λ made. next (tables_in old.now) ≡ Ok made) old new one.kept one.rests settled (λ clean. changed (one.given clean));
+    → ((tables : State) → first tables ≡ Err why → next tables ≡ Err why) → Reads first old new (Err why) → Edits next old new (Err why)
+edits_refused {X} first next old new why settled so one = record {
+  within = rested_within why _ old new one.kept one.rests settled (λ clean. changed (one.given clean));
   refused = λ clean. passed (one.given clean);
 }
   where
@@ -128,17 +136,7 @@ edits_refused {X} {Y} first next old new why settled so one = record {
     passed (inl given) = inl (so (tables_in old.now) (sym given.0))
     passed (inr refused) = inr refused
 
--- what a call of the store does, by another answer
-pub within_made : {X Y E : Type 0} (Makes Made : State → Type 0) (Ends : E → Type 0) (old new : sqlite.State) (x : X) (y : Y) → ((made : State) → Makes made → Made made) → Within Makes Ends old new (Ok x)
-    → Within Made MayEnd old new (Ok y)
-within_made Makes Made Ends old new x y so one = record {
-  kept = one.kept;
-  made = λ clean. ((one.made clean).0, so (tables_in new.now) (one.made clean).1);
-  back = λ clean. tt;
-  ended = λ clean. tt;
-  goes_on = λ clean inside. tt;
-}
-
+-- what a call of the store is refused for, by another refusal
 pub within_refused : {X Y E : Type 0} (Makes Made : State → Type 0) (Ends : E → Type 0) (old new : sqlite.State) (e : E) (why : Refused) → (Ends e → MayEnd why) → Within {X = X} Makes Ends old new (Err e)
     → Within {X = Y} Made MayEnd old new (Err why)
 within_refused Makes Made Ends old new e why so one = record {

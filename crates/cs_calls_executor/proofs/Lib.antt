@@ -8,5 +8,4 @@ mod PutLemmas
 mod ReadLemmas
 mod RefusalLemmas
 mod RefusedEdits
-mod ServiceLemmas
 mod WorkLemmas

@@ -13,8 +13,9 @@ use Rattle.cs_store_sql.specs.Marks.{IsMarked}
 use Rattle.cs_calls_answers.specs.declared.answer.Refused.{Refused}
 use Rattle.cs_calls_executor.specs.declared.applying.ApplyCall.{ApplyCall}
 use Rattle.cs_calls_executor.specs.declared.calls.TableCall.TheVariants.{Apply}
+use Rattle.cs_calls_executor.specs.declared.calls.Carried.{Carried}
 use Rattle.cs_calls_executor.specs.Answered.{IsResource, MayEnd}
-use Rattle.cs_calls_executor.specs.Calls.{CarriesOut, IsRefusal, Sends, Works}
+use Rattle.cs_calls_executor.specs.Calls.{CarriesOut, IsCarried, IsRefusal, Works}
 use Rattle.cs_calls_executor.proofs.EditLemmas.{may_end}
 
 module _ (call : ApplyCall) (old : sqlite.State) (inside : IsTrue old.in_transaction) where
@@ -34,11 +35,11 @@ module _ (call : ApplyCall) (old : sqlite.State) (inside : IsTrue old.in_transac
       (is_marked : HasCleanDisk marked → IsTrue old.in_transaction × Shows old marked old.now old.committed true × IsMarked old.marks old.now marked)
       (starts : KeepsCrash old marked) (ends : KeepsCrash mid new) where
     -- what the work makes of the tables
-    Made : (result : Result (Vec ℕ Global) Refused) → State → State → Type 0
-    Made result before after = IfOk result (λ bytes. Sends (Apply call) before bytes.items after)
+    Made : (result : Result Carried Refused) → State → State → Type 0
+    Made result before after = IfOk result (λ carried. IsCarried (Apply call) before carried after)
 
     -- it is not dropped
-    pub unreleased_apply : (why : Refused) (result : Result (Vec ℕ Global) Refused) → IsResource why → Works call marked mid result → (HasCleanDisk new → IsUndone mid new) → CarriesOut (Apply call) old new (Err why)
+    pub unreleased_apply : (why : Refused) (result : Result Carried Refused) → IsResource why → Works call marked mid result → (HasCleanDisk new → IsUndone mid new) → CarriesOut (Apply call) old new (Err why)
     unreleased_apply why result short one undone = record {
       within = unreleased_within old marked mid is_marked starts one.kept new why _ MayEnd (may_end why short) ends undone;
       refused = λ clean is. inr (inr short);
@@ -47,7 +48,7 @@ module _ (call : ApplyCall) (old : sqlite.State) (inside : IsTrue old.in_transac
     }
 
     -- the call ends as its work does
-    pub marked_apply : (result : Result (Vec ℕ Global) Refused) → Works call marked mid result
+    pub marked_apply : (result : Result Carried Refused) → Works call marked mid result
         → ((before : List Savepoint) (db : Database) → (IsTrue mid.in_transaction → IsMarked before db mid) → HasCleanDisk new → EndsCall (is_ok result) before db mid new) → CarriesOut (Apply call) old new result
     unfolding Made
     marked_apply result one end = record {
@@ -62,11 +63,11 @@ module _ (call : ApplyCall) (old : sqlite.State) (inside : IsTrue old.in_transac
         on : HasCleanDisk mid → IsTrue marked.in_transaction
         on clean = (is_marked (was_clean marked mid one.kept.crash clean)).1.mode
 
-        both : (r : Result (Vec ℕ Global) Refused) → IfOk r (λ bytes. IsTrue mid.in_transaction × Sends (Apply call) (tables_in marked.now) bytes.items (tables_in mid.now))
-            → OnOk r (IsTrue mid.in_transaction × IfOk r (λ bytes. Sends (Apply call) (tables_in marked.now) bytes.items (tables_in mid.now)))
+        both : (r : Result Carried Refused) → IfOk r (λ carried. IsTrue mid.in_transaction × IsCarried (Apply call) (tables_in marked.now) carried (tables_in mid.now))
+            → OnOk r (IsTrue mid.in_transaction × IfOk r (λ carried. IsCarried (Apply call) (tables_in marked.now) carried (tables_in mid.now)))
         both (Ok bytes) made = made
         both (Err why) made = tt
 
-        same : HasCleanDisk marked → (r : Result (Vec ℕ Global) Refused) → IfErr r (IsRefusal (Apply call) (tables_in marked.now)) → IfErr r (IsRefusal (Apply call) (tables_in old.now))
+        same : HasCleanDisk marked → (r : Result Carried Refused) → IfErr r (IsRefusal (Apply call) (tables_in marked.now)) → IfErr r (IsRefusal (Apply call) (tables_in old.now))
         same clean (Ok bytes) refused = tt
         same clean (Err why) refused = subst (λ (db : Database). IsRefusal (Apply call) (tables_in db) why) (is_marked clean).1.now_is refused

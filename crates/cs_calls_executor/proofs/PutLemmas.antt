@@ -6,7 +6,7 @@ use Rattle.cs_value.specs.declared.value.OwnedValue.{OwnedValue}
 use Rattle.cs_value.specs.Key.{key_columns, row_key}
 use Rattle.cs_value.specs.Spelling.{row_bytes}
 use Rattle.cs_value.specs.State.{SchemaData, State, row_at}
-use Rattle.cs_rows.specs.Editing.{edited, inserted, updated}
+use Rattle.cs_rows.specs.Editing.{Edited, edited, inserted, updated}
 use Rattle.cs_calls_answers.specs.declared.answer.Refused.{Refused}
 use Rattle.cs_calls_conversions.specs.Refusals.{of_edit_error, of_row_error, of_update_error}
 use Rattle.cs_calls_executor.specs.TableCalls.{on_table, edit_outcome, put_by, puts, putting}
@@ -14,7 +14,7 @@ use Rattle.cs_calls_executor.proofs.ReadLemmas.{schema_found, value_found}
 
 module _ (tables : State) (table : List ℕ) (schema : SchemaData) (row : List OwnedValue) where
   -- the tables after a put, once the schema is known
-  abbrev pub put_at : Result State Refused
+  abbrev pub put_at : Result Edited Refused
   put_at = on_table tables table (λ s. put_by tables table schema row (is_some (row_at tables table (row_key schema.flags row))))
 
   module _ (found : on_table tables table (λ s. Ok s) ≡ Ok schema) where

@@ -1,10 +1,11 @@
 -- What an edit makes, and why it is refused, as calls have it.
-use Rattle.std.proofs.Common.{◌≡◌, ◌⊎◌, inl, inr, ℕ, List, Result, Ok, Err, refl, sym, ap, subst, ◌∙◌}
+use Rattle.std.proofs.Common.{◌≡◌, ◌⊎◌, inl, inr, ℕ, List, Vec, Global, Result, Ok, Err, refl, sym, ap, subst, ◌∙◌}
 use Rattle.sqlite.specs.State as sqlite
 use Rattle.sqlite.specs.State.{HasCleanDisk}
 use Rattle.cs_value.specs.declared.value.OwnedValue.{OwnedValue}
 use Rattle.cs_value.specs.State.{SchemaData, State}
 use Rattle.cs_rows.specs.declared.edit.Edit.{Edit}
+use Rattle.cs_rows.specs.declared.edit.Written.{Written}
 use Rattle.cs_rows.specs.declared.fault.StoreError.{StoreError}
 use Rattle.cs_rows.specs.declared.fault.StoreError.TheVariants.{NoMemory}
 use Rattle.cs_rows.specs.Editing.{Edited, EditsInto, edited}
@@ -15,16 +16,13 @@ use Rattle.cs_store.specs.Within.{Within}
 use Rattle.cs_calls_answers.specs.declared.answer.Refused.{Refused}
 use Rattle.cs_calls_answers.specs.Refusals.{plain_refusal}
 use Rattle.cs_calls_conversions.specs.Refusals.{of_edit_error}
-use Rattle.cs_calls_executor.specs.Answered.{IsRefusalOf, IsResource, Edits}
+use Rattle.cs_calls_executor.specs.Answered.{IsRefusalOf, IsResource, Edits, edited_as}
 use Rattle.cs_calls_executor.specs.TableCalls.{edit_outcome}
-use Rattle.cs_calls_executor.proofs.EditLemmas.{within_made, within_refused}
+use Rattle.cs_calls_executor.proofs.EditLemmas.{within_refused}
 use Rattle.cs_calls_executor.proofs.ReadLemmas.{no_memory}
 use Rattle.cs_calls_executor.proofs.RefusalLemmas.{edit_error_is}
 
 module _ (table : List ℕ) (schema : SchemaData) (key : List OwnedValue) (edit : Edit) (old new : sqlite.State) where
-  made : (left : State) → EditsInto (tables_in old.now) edit left → edit_outcome (of_edit_error table schema key edit) (edited (tables_in old.now) edit) ≡ Ok left
-  made left into = ap (λ (r : Result Edited StoreError). edit_outcome (of_edit_error table schema key edit) r) into.1
-
   refusal : (Is : StoreError → Type 0) → ((e : StoreError) → Is e → IsReadRefusal e) → Is NoMemory → (error : StoreError) (why : Refused) → (why ≡ of_edit_error table schema key edit error) ⊎ (why ≡ plain_refusal 60) → Is error
       → IsRefusalOf Is why
   refusal Is reads memory error why (inl is) may = record { error = error; of = may; is = is ∙ edit_error_is table schema key edit error (reads error may) }
@@ -32,9 +30,9 @@ module _ (table : List ℕ) (schema : SchemaData) (key : List OwnedValue) (edit 
 
   pub edit_refused : {X : Type 0} (error : StoreError) (why : Refused) → (why ≡ of_edit_error table schema key edit error) ⊎ (why ≡ plain_refusal 60)
       → (HasCleanDisk new → (edited (tables_in old.now) edit ≡ Err error) ⊎ stores.IsResource error) → Within {X = X} (EditsInto (tables_in old.now) edit) IsReadRefusal old new (Err error)
-      → {Y : Type 0} → Edits {X = Y} (λ tables. edit_outcome (of_edit_error table schema key edit) (edited tables edit)) old new (Err why)
-  edit_refused {X} error why is refused within {Y} = record {
-    within = within_refused (EditsInto (tables_in old.now) edit) (λ left. edit_outcome (of_edit_error table schema key edit) (edited (tables_in old.now) edit) ≡ Ok left) IsReadRefusal old new error why (refusal IsReadRefusal (λ e may. may) (inr (inl refl)) error why is) within;
+      → Edits (λ tables. edit_outcome (of_edit_error table schema key edit) (edited tables edit)) old new (Err why)
+  edit_refused {X} error why is refused within = record {
+    within = within_refused (EditsInto (tables_in old.now) edit) _ IsReadRefusal old new error why (refusal IsReadRefusal (λ e may. may) (inr (inl refl)) error why is) within;
     refused = λ clean. at (refused clean) is;
   }
     where
@@ -44,8 +42,15 @@ module _ (table : List ℕ) (schema : SchemaData) (key : List OwnedValue) (edit 
       at (inl it) (inl same) = inl (ap (λ (r : Result Edited StoreError). edit_outcome (of_edit_error table schema key edit) r) it ∙ ap (λ (w : Refused). Err w) (sym same))
       at (inr short) (inl same) = inr (refusal stores.IsResource (λ e may. inr may) (inl refl) error why (inl same) short)
 
-  pub edit_made : {X : Type 0} (x : X) → Within (EditsInto (tables_in old.now) edit) IsReadRefusal old new (Ok x) → {Y : Type 0} (y : Y) → Edits (λ tables. edit_outcome (of_edit_error table schema key edit) (edited tables edit)) old new (Ok y)
-  edit_made {X} x within {Y} y = record {
-    within = within_made (EditsInto (tables_in old.now) edit) (λ left. edit_outcome (of_edit_error table schema key edit) (edited (tables_in old.now) edit) ≡ Ok left) IsReadRefusal old new x y made within;
+  pub edit_made : (written : Vec Written Global) → (HasCleanDisk new → edited (tables_in old.now) edit ≡ Ok (edited_as (tables_in new.now) written)) → Within (EditsInto (tables_in old.now) edit) IsReadRefusal old new (Ok written)
+      → Edits (λ tables. edit_outcome (of_edit_error table schema key edit) (edited tables edit)) old new (Ok written)
+  edit_made written made within = record {
+    within = record {
+      kept = within.kept;
+      made = λ clean. ((within.made clean).0, ap (λ (r : Result Edited StoreError). edit_outcome (of_edit_error table schema key edit) r) (made clean));
+      back = λ clean. tt;
+      ended = λ clean. tt;
+      goes_on = λ clean inside. tt;
+    };
     refused = λ clean. tt;
   }

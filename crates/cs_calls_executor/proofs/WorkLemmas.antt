@@ -20,9 +20,10 @@ use Rattle.cs_calls_answers.specs.declared.answer.Refused.{Refused}
 use Rattle.cs_calls_conversions.specs.Conflicts.{of_apply_fault, of_conflict, reported_by}
 use Rattle.cs_calls_executor.specs.declared.applying.ApplyCall.{ApplyCall}
 use Rattle.cs_calls_executor.specs.declared.calls.TableCall.TheVariants.{Apply}
-use Rattle.cs_calls_executor.specs.Answered.{IsAnswered, IsOpen, IsResource, MayEnd, Reads}
+use Rattle.cs_calls_executor.specs.Answered.{IsAnswered, IsOpen, IsResource, MayEnd, Reads, edited_as}
 use Rattle.cs_calls_executor.specs.Applying.{AppliesAs, IsToldBy, RefusesAs, chooses, direction_of, file_of, noop_of}
-use Rattle.cs_calls_executor.specs.Calls.{IsUnsent, Spells, Works}
+use Rattle.cs_calls_executor.specs.declared.calls.Carried.{Carried}
+use Rattle.cs_calls_executor.specs.Calls.{Answers, IsUnsent, Spells, Works}
 use Rattle.cs_calls_executor.proofs.CallLemmas.{unsent}
 use Rattle.cs_calls_executor.proofs.EditLemmas.{answered, may_end}
 use Rattle.cs_calls_executor.proofs.ReadLemmas.{from_ok, okay}
@@ -130,16 +131,17 @@ module _ (call : ApplyCall) (old mid : sqlite.State) where
         inside_new : HasCleanDisk new → IsTrue new.in_transaction
         inside_new clean = subst IsTrue (sym (read clean).1.0.mode) (one.made (was clean)).0.inside
 
-        answers : HasCleanDisk new → (r : Report) × AppliesAs call (tables_in old.now) r (tables_in new.now) × (given ≡ answer.Report (reported_by (tables_in new.now) r))
+        answers : HasCleanDisk new → Answers (Apply call) (tables_in old.now) given (edited_as (tables_in new.now) report.written)
         unfolding from_ok
         answers clean = (
           report,
           subst (λ (db : Database). AppliesAs call (tables_in old.now) report (tables_in db)) (sym (read clean).1.0.now_is) (applied (was clean)),
           sym (ap (λ (r : Result Answer Refused). from_ok given r) (read clean).0) ∙ sym (ap (λ (db : Database). answer.Report (reported_by (tables_in db) report)) (read clean).1.0.now_is),
+          refl,
         )
 
         -- it is sent
-        reported_works : (bytes : Vec ℕ Global) → Spells given bytes → Works call old new (Ok bytes)
+        pub reported_works : (bytes : Vec ℕ Global) → Spells given bytes → Works call old new (Ok (record { bytes = bytes; written = report.written }))
         reported_works bytes sent = record {
           kept = keeps_then one.kept two.kept;
           made = λ clean. (inside_new clean, record { given = given; answers = answers clean; counts = sent.0; sent = sent.1 });
@@ -149,15 +151,11 @@ module _ (call : ApplyCall) (old mid : sqlite.State) where
         }
 
         -- or not
-        unsent_works : (why : Refused) → IsUnsent given why → Works call old new (Err why)
+        pub unsent_works : (why : Refused) → IsUnsent given why → Works call old new (Err why)
         unsent_works why short = record {
           kept = keeps_then one.kept two.kept;
           made = λ clean. tt;
           goes_on = λ clean inside. inr (inside_new clean);
-          refused = λ clean inside. unsent (Apply call) (tables_in old.now) (tables_in new.now) given why (answers clean) short;
+          refused = λ clean inside. unsent (Apply call) (tables_in old.now) (edited_as (tables_in new.now) report.written) given why (answers clean) short;
           spelled = tt;
         }
-
-        pub given_works : (result : Result (Vec ℕ Global) Refused) → IfOk result (Spells given) → IfErr result (IsUnsent given) → Works call old new result
-        given_works (Ok bytes) sent short = reported_works bytes sent
-        given_works (Err why) sent short = unsent_works why short

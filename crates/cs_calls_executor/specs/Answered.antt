@@ -1,9 +1,13 @@
 -- What calls do in the transaction of a store.
-use Rattle.std.specs.Prelude.{◌≡◌, ◌⊎◌, IsTrue, Result, Ok, Err, IfErr, IsErrAnd}
+use Rattle.std.specs.Prelude.{◌≡◌, ◌⊎◌, IsTrue, map, Result, Ok, Err, IfOk, IfErr, IsErrAnd}
+use Rattle.std.specs.declared.alloc.Global.{Global}
+use Rattle.std.specs.declared.vec.Vec.{Vec}
 use Rattle.sqlite.specs.State as sqlite
 use Rattle.sqlite.specs.State.{HasCleanDisk, IsUnchanged}
 use Rattle.cs_value.specs.State.{State}
+use Rattle.cs_rows.specs.declared.edit.Written.{Written}
 use Rattle.cs_rows.specs.declared.fault.StoreError.{StoreError}
+use Rattle.cs_rows.specs.Editing.{Edited, written_of}
 use Rattle.cs_rows.specs.Faults as stores
 use Rattle.cs_store.specs.Records.{Rests}
 use Rattle.cs_store.specs.Store.{KeepsStore, tables_in}
@@ -41,13 +45,18 @@ pub record Reads {X : Type 0} (answer : State → Result X Refused) (old new : s
     pub rests : HasCleanDisk new → Rests old new
     pub given : HasCleanDisk new → IsAnswered (answer (tables_in old.now)) old new result
 
--- An accepted edit makes tables that `Next` relates to those that are shown. A refused one has a refusal of `Next`, or
--- memory ran out, or the database refused.
-pub record Makes {X : Type 0} (Next : State → Result State Refused → Type 0) (old new : sqlite.State) (result : Result X Refused) :
-    Type 0 where
-  pub within : Within (λ made. Next (tables_in old.now) (Ok made)) MayEnd old new result
+-- these tables, and these keys that were written
+abbrev pub edited_as : State → Vec Written Global → Edited
+edited_as made written = record { state = made; written = map written_of written.items }
+
+-- An accepted edit makes tables, and returns the keys that it wrote, which `Next` relates to the tables that are shown. A
+-- refused one has a refusal of `Next`, or memory ran out, or the database refused.
+pub record Makes (Next : State → Result Edited Refused → Type 0) (old new : sqlite.State)
+    (result : Result (Vec Written Global) Refused) : Type 0 where
+  pub within : Within (λ made. IfOk result (λ written. Next (tables_in old.now) (Ok (edited_as made written)))) MayEnd old new
+      result
   pub refused : HasCleanDisk new → IfErr result (λ why. Next (tables_in old.now) (Err why) ⊎ IsResource why)
 
--- the tables and the refusals of `next`
-abbrev pub Edits : {X : Type 0} → (State → Result State Refused) → sqlite.State → sqlite.State → Result X Refused → Type 0
+-- the tables, the keys and the refusals of `next`
+abbrev pub Edits : (State → Result Edited Refused) → sqlite.State → sqlite.State → Result (Vec Written Global) Refused → Type 0
 Edits next old new result = Makes (λ tables outcome. next tables ≡ outcome) old new result

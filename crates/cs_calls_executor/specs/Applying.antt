@@ -1,6 +1,7 @@
 -- What a call does that applies a changeset file.
-use Rattle.std.specs.Prelude.{◌≡◌, ◌⊎◌, ℕ, List, Result, Ok, Err}
+use Rattle.std.specs.Prelude.{◌≡◌, ◌⊎◌, ℕ, List, map, Result, Ok, Err}
 use Rattle.cs_value.specs.State.{State}
+use Rattle.cs_rows.specs.Editing.{Edited, written_of}
 use Rattle.cs_apply_conflict_kinds.specs.declared.conflict.Noop.{Noop}
 use Rattle.cs_apply_conflict_kinds.specs.declared.conflict.Noop.TheVariants as noop
 use Rattle.cs_apply_engine.specs.declared.conflict.Conflict.{Conflict}
@@ -50,10 +51,11 @@ RefusesAs call tables fault =
 
 -- ---- what that is answered
 
--- the report of the apply
-abbrev pub Applies : ApplyCall → State → Answer → State → Type 0
+-- the report of the apply, whose keys are written
+abbrev pub Applies : ApplyCall → State → Answer → Edited → Type 0
 Applies call tables given made =
-    (report : Report) × AppliesAs call tables report made × (given ≡ answer.Report (reported_by made report))
+    (report : Report) × AppliesAs call tables report made.state × (given ≡ answer.Report (reported_by made.state report))
+    × (made.written ≡ map written_of report.written.items)
 
 -- or the refusal of its fault
 abbrev pub RefusesApply : ApplyCall → State → Refused → Type 0

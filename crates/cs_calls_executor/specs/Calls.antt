@@ -1,11 +1,12 @@
 -- What a call on the tables of a store does: it reads or edits them, or applies a changeset file.
-use Rattle.std.specs.Prelude.{◌≡◌, ◌⊎◌, ◌<◌, ℕ, length, IsTrue, false, List, Result, Ok, Err, IfOk, IfErr, IsErrAnd}
+use Rattle.std.specs.Prelude.{◌≡◌, ◌⊎◌, ◌<◌, ℕ, length, IsTrue, false, List, [], Result, Ok, Err, IfOk, IfErr, IsErrAnd}
 use Rattle.std.specs.FinMap as map
 use Rattle.std.specs.declared.alloc.Global.{Global}
 use Rattle.std.specs.declared.vec.Vec.{Vec}
 use Rattle.sqlite.specs.State as sqlite
 use Rattle.sqlite.specs.State.{HasCleanDisk}
 use Rattle.cs_value.specs.State.{State}
+use Rattle.cs_rows.specs.Editing.{Edited}
 use Rattle.cs_store.specs.Store.{KeepsStore, tables_in}
 use Rattle.cs_store.specs.Within.{Within}
 use Rattle.cs_calls_answers.specs.declared.answer.Answer.{Answer}
@@ -21,7 +22,8 @@ use Rattle.cs_calls_executor.specs.declared.calls.EditCall.{EditCall}
 use Rattle.cs_calls_executor.specs.declared.calls.EditCall.TheVariants.{Declare, Insert, Update, Delete, Put}
 use Rattle.cs_calls_executor.specs.declared.calls.TableCall.{TableCall}
 use Rattle.cs_calls_executor.specs.declared.calls.TableCall.TheVariants.{Read, Edit, Apply}
-use Rattle.cs_calls_executor.specs.Answered.{IsResource, MayEnd}
+use Rattle.cs_calls_executor.specs.declared.calls.Carried.{Carried}
+use Rattle.cs_calls_executor.specs.Answered.{IsResource, MayEnd, edited_as}
 use Rattle.cs_calls_executor.specs.Applying.{Applies, RefusesApply}
 use Rattle.cs_calls_executor.specs.TableCalls.{Declared, table_columns, table_row, table_page, table_count, inserts, updates, deletes, puts}
 
@@ -42,24 +44,24 @@ read_answer (Get table key) tables = answered_as answer.Row (table_row tables ta
 read_answer (Rows table after limit) tables = answered_as page_answer (table_page tables table after limit)
 read_answer (Count table) tables = answered_as answer.Number (table_count tables table)
 
--- the tables after an edit, or why it is refused
-abbrev pub EditsTo : EditCall → State → Result State Refused → Type 0
+-- the tables after an edit and the keys that it writes, or why it is refused
+abbrev pub EditsTo : EditCall → State → Result Edited Refused → Type 0
 EditsTo (Declare table columns) tables outcome = Declared tables table columns outcome
 EditsTo (Insert table row) tables outcome = inserts tables table row ≡ outcome
 EditsTo (Update table key row) tables outcome = updates tables table key row ≡ outcome
 EditsTo (Delete table key) tables outcome = deletes tables table key ≡ outcome
 EditsTo (Put table row) tables outcome = puts tables table row ≡ outcome
 
--- a call is answered so, and these are the tables after it: a read leaves them, an edit is done, and an apply has its
--- report
-abbrev pub Answers : TableCall → State → Answer → State → Type 0
-Answers (Read call) tables given made = (read_answer call tables ≡ Ok given) × (made ≡ tables)
+-- a call is answered so, and these are the tables after it and the keys that it writes: a read leaves the tables, an edit
+-- is done, and an apply has its report
+abbrev pub Answers : TableCall → State → Answer → Edited → Type 0
+Answers (Read call) tables given made = (read_answer call tables ≡ Ok given) × (made.state ≡ tables) × (made.written ≡ [])
 Answers (Edit call) tables given made = (given ≡ answer.Done) × EditsTo call tables (Ok made)
 Answers (Apply call) tables given made = Applies call tables given made
 
 -- these are the tables after it
 abbrev pub IsMade : TableCall → State → State → Type 0
-IsMade call tables made = (given : Answer) × Answers call tables given made
+IsMade call tables made = (given : Answer) × (edited : Edited) × Answers call tables given edited × (edited.state ≡ made)
 
 -- or it is refused so
 abbrev pub Refuses : TableCall → State → Refused → Type 0
@@ -82,7 +84,7 @@ abbrev pub IsUnsent : Answer → Refused → Type 0
 IsUnsent given why = ((why ≡ plain_refusal 94) × IsTooLong given) ⊎ (why ≡ out_of_memory)
 
 -- the bytes are those of the answer
-pub record Sends (call : TableCall) (tables : State) (bytes : List ℕ) (made : State) : Type 0 where
+pub record Sends (call : TableCall) (tables : State) (bytes : List ℕ) (made : Edited) : Type 0 where
   pub given : Answer
   pub answers : Answers call tables given made
   pub counts : HasCounts given
@@ -90,7 +92,7 @@ pub record Sends (call : TableCall) (tables : State) (bytes : List ℕ) (made : 
 
 -- its answer is too long
 abbrev pub HasLongAnswer : TableCall → State → Type 0
-HasLongAnswer call tables = (given : Answer) × (made : State) × Answers call tables given made × IsTooLong given
+HasLongAnswer call tables = (given : Answer) × (made : Edited) × Answers call tables given made × IsTooLong given
 
 -- why a call is refused: by its definition, since its answer is too long, for memory, or by the database
 abbrev pub IsRefusal : TableCall → State → Refused → Type 0
@@ -101,20 +103,24 @@ IsRefusal call tables why =
 abbrev pub AreAnswer : Vec ℕ Global → Type 0
 AreAnswer bytes = (given : Answer) × Spells given bytes
 
+-- the answer is sent, with these tables after the call, and the keys that it wrote
+abbrev pub IsCarried : TableCall → State → Carried → State → Type 0
+IsCarried call tables carried made = Sends call tables carried.bytes.items (edited_as made carried.written)
+
 -- In a transaction that is open: the call is answered, or refused. One that has ended refuses it with 97
 -- TransactionEnded.
-pub record CarriesOut (call : TableCall) (old new : sqlite.State) (result : Result (Vec ℕ Global) Refused) : Type 0 where
-  pub within : Within (λ made. IfOk result (λ bytes. Sends call (tables_in old.now) bytes.items made)) MayEnd old new result
+pub record CarriesOut (call : TableCall) (old new : sqlite.State) (result : Result Carried Refused) : Type 0 where
+  pub within : Within (λ made. IfOk result (λ carried. IsCarried call (tables_in old.now) carried made)) MayEnd old new result
   pub refused : HasCleanDisk new → IsTrue old.in_transaction → IfErr result (IsRefusal call (tables_in old.now))
   pub ended : old.in_transaction ≡ false → IsErrAnd result (λ why. why ≡ plain_refusal 97)
-  pub spelled : IfOk result AreAnswer
+  pub spelled : IfOk result (λ carried. AreAnswer carried.bytes)
 
 -- The work of an apply, before it goes back to its mark if it is refused: it is answered, or it is refused, and the
 -- transaction has ended only for what may end it.
-pub record Works (call : ApplyCall) (old new : sqlite.State) (result : Result (Vec ℕ Global) Refused) : Type 0 where
+pub record Works (call : ApplyCall) (old new : sqlite.State) (result : Result Carried Refused) : Type 0 where
   pub kept : KeepsStore old new
-  pub made : HasCleanDisk new → IfOk result (λ bytes. IsTrue new.in_transaction
-      × Sends (Apply call) (tables_in old.now) bytes.items (tables_in new.now))
+  pub made : HasCleanDisk new → IfOk result (λ carried. IsTrue new.in_transaction
+      × IsCarried (Apply call) (tables_in old.now) carried (tables_in new.now))
   pub goes_on : HasCleanDisk new → IsTrue old.in_transaction → IfErr result (λ why. MayEnd why ⊎ IsTrue new.in_transaction)
   pub refused : HasCleanDisk new → IsTrue old.in_transaction → IfErr result (IsRefusal (Apply call) (tables_in old.now))
-  pub spelled : IfOk result AreAnswer
+  pub spelled : IfOk result (λ carried. AreAnswer carried.bytes)

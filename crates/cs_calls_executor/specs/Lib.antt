@@ -2,7 +2,6 @@ pub mod TableCalls
 pub mod Answered
 pub mod Applying
 pub mod Calls
-pub mod Service
 pub use Rattle.cs_calls_conversions.specs.Keys
 pub use Rattle.cs_calls_conversions.specs.Columns
 pub use Rattle.cs_calls_conversions.specs.Pages

@@ -1,6 +1,6 @@
 -- What calls on the tables of a store are answered, and the tables after them, or why they are refused. Tables, rows and
 -- edits are those of SQLite; the calls and their refusals are this project's own.
-use Rattle.std.specs.Prelude.{◌≡◌, ℕ, Bool, true, false, List, length, Option, None, Some, is_some, Result, Ok, Err}
+use Rattle.std.specs.Prelude.{◌≡◌, ℕ, Bool, true, false, List, [], length, Option, None, Some, is_some, Result, Ok, Err}
 use Rattle.std.specs.FinMap as map
 use Rattle.std.specs.declared.alloc.Global.{Global}
 use Rattle.std.specs.declared.string.String.{String}
@@ -67,44 +67,44 @@ table_page state table None limit = on_table state table (λ schema. Ok (page_at
 table_page state table (Some values) limit =
     on_table state table (λ schema. with_key table schema values (λ key. Ok (page_at state table schema (Some key) limit)))
 
--- ---- edits: the tables after them
+-- ---- edits: the tables after them, and the keys that they write
 
--- the tables after a declaration, or why there are none
-abbrev pub Declared : State → List ℕ → List Column → Result State Refused → Type 0
-Declared state table columns (Ok next) = Declares state table (declared_schema columns) (Ok next)
+-- the tables after a declaration, which writes no key, or why there are none
+abbrev pub Declared : State → List ℕ → List Column → Result Edited Refused → Type 0
+Declared state table columns (Ok next) = Declares state table (declared_schema columns) (Ok next.state) × (next.written ≡ [])
 Declared state table columns (Err why) =
     (error : StoreError) × Declares state table (declared_schema columns) (Err error) × (why ≡ of_declare_error table error)
 
-abbrev pub edit_outcome : (StoreError → Refused) → Result Edited StoreError → Result State Refused
-edit_outcome why (Ok edited) = Ok edited.state
+abbrev pub edit_outcome : (StoreError → Refused) → Result Edited StoreError → Result Edited Refused
+edit_outcome why (Ok edited) = Ok edited
 edit_outcome why (Err error) = Err (why error)
 
 -- the tables after an insertion
-abbrev pub inserts : State → List ℕ → List OwnedValue → Result State Refused
+abbrev pub inserts : State → List ℕ → List OwnedValue → Result Edited Refused
 inserts state table row =
     on_table state table (λ schema. edit_outcome (of_row_error table schema row) (inserted state table row))
 
 -- the tables after an update; the new row may have another key
-abbrev pub updates : State → List ℕ → List OwnedValue → List OwnedValue → Result State Refused
+abbrev pub updates : State → List ℕ → List OwnedValue → List OwnedValue → Result Edited Refused
 updates state table values row =
     on_table state table (λ schema. with_key table schema values
     (λ key. edit_outcome (of_update_error table schema values row) (updated state table key row)))
 
 -- the tables after a deletion
-abbrev pub deletes : State → List ℕ → List OwnedValue → Result State Refused
+abbrev pub deletes : State → List ℕ → List OwnedValue → Result Edited Refused
 deletes state table values =
     on_table state table (λ schema. with_key table schema values
     (λ key. edit_outcome (of_delete_error table values) (deleted state table key)))
 
 -- the tables after a put: an update if a row has the key, or else an insertion
-abbrev pub put_by : State → List ℕ → SchemaData → List OwnedValue → Bool → Result State Refused
+abbrev pub put_by : State → List ℕ → SchemaData → List OwnedValue → Bool → Result Edited Refused
 put_by state table schema row true =
     edit_outcome (of_update_error table schema (key_columns schema.flags row) row)
     (updated state table (row_key schema.flags row) row)
 put_by state table schema row false = edit_outcome (of_row_error table schema row) (inserted state table row)
 
 -- a row is put in the place of the one that has its key, or inserted
-abbrev pub puts : State → List ℕ → List OwnedValue → Result State Refused
+abbrev pub puts : State → List ℕ → List OwnedValue → Result Edited Refused
 puts state table row =
     on_table state table (λ schema. put_by state table schema row (is_some (row_at state table (row_key schema.flags row))))
 

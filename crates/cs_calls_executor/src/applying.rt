@@ -14,7 +14,7 @@ ghost use Rattle.cs_calls_executor.specs.Applying.{AppliesAs, IsToldBy, RefusesA
 ghost use Rattle.cs_calls_executor.specs.Calls.{CarriesOut, Works};
 ghost use Rattle.cs_calls_executor.specs.declared.calls.TableCall.TheVariants.{Apply as ApplyOf};
 
-use crate::calls::bytes_of;
+use crate::calls::{Carried, bytes_of};
 use cs_apply::{
     ApplyFault, Conflict, Met, Noop, Policy, Report, apply_in_transaction, revert_in_transaction,
 };
@@ -185,19 +185,21 @@ fn fault_refusal(fault: ApplyFault) -> Result<Refused, (u64, Conflict)>
     }
 }
 
-/// Applies the file of a call, and returns the bytes of its report. After a refusal the transaction may show what was
-/// written.
+/// Applies the file of a call, and returns the bytes of its report and the keys that were written. After a refusal the
+/// transaction may show what was written.
 fn work<S: Alter + Drop>(
     alloc: Global,
     transaction: &mut Transaction<S>,
     call: &ApplyCall,
-) -> Result<Vec<u8>, Refused>
+) -> Result<Carried, Refused>
     ensures { Works call.now (state S.Store transaction.old) (state S.Store transaction.new) result }
 {
     match run(alloc, transaction, call) {
         Ok(report) => {
             let answer = reported(alloc, transaction, &report)?;
-            bytes_of(alloc, &answer)
+            let bytes = bytes_of(alloc, &answer)?;
+            let Report { written, .. } = report;
+            Ok(Carried { bytes, written })
         }
         Err(fault) => match fault_refusal(fault) {
             Ok(refused) => Err(refused),
@@ -215,7 +217,7 @@ pub(crate) fn apply<S: Alter + Drop>(
     alloc: Global,
     transaction: &mut Transaction<S>,
     call: &ApplyCall,
-) -> Result<Vec<u8>, Refused>
+) -> Result<Carried, Refused>
     ensures { IsTrue (state S.Store transaction.old).in_transaction
         → CarriesOut (ApplyOf call.now) (state S.Store transaction.old) (state S.Store transaction.new) result }
 {

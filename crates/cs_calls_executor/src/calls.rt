@@ -9,6 +9,7 @@ use crate::editing::{declare, delete, insert, put, update};
 use crate::reading::{count_rows, list_tables, read_columns, read_page, read_row};
 use cs_calls_answers::{Answer, Refused, answer_write, has_counts};
 use cs_calls_parts::Columns;
+use cs_rows::Written;
 use cs_store::Transaction;
 use cs_value::{Row, Text};
 use sqlite::Alter;
@@ -104,12 +105,12 @@ fn read<S: Alter>(
     }
 }
 
-/// Carries out a call that edits.
+/// Carries out a call that edits, and returns the keys that it wrote.
 fn edit<S: Alter + Drop>(
     alloc: Global,
     transaction: &mut Transaction<S>,
     call: EditCall,
-) -> Result<(), Refused>
+) -> Result<Vec<Written>, Refused>
     ensures { Makes (λ tables outcome. EditsTo call tables outcome)
         (state S.Store transaction.old) (state S.Store transaction.new) result }
 {
@@ -146,7 +147,16 @@ pub fn bytes_of(alloc: Global, answer: &Answer) -> Result<Vec<u8>, Refused>
     Ok(bytes)
 }
 
-/// Carries out a call on tables in a transaction, and returns the bytes of its answer.
+/// What a call did that was carried out.
+#[derive(Drop)]
+pub struct Carried {
+    /// The bytes of the answer.
+    pub bytes: Vec<u8>,
+    /// The keys that were written, with the rows from before.
+    pub written: Vec<Written>,
+}
+
+/// Carries out a call on tables in a transaction, and returns the bytes of its answer and the keys that it wrote.
 ///
 /// # Errors
 ///
@@ -157,7 +167,7 @@ pub fn carry_out<S: Alter + Drop>(
     alloc: Global,
     transaction: &mut Transaction<S>,
     call: TableCall,
-) -> Result<Vec<u8>, Refused>
+) -> Result<Carried, Refused>
     ensures { CarriesOut call (state S.Store transaction.old) (state S.Store transaction.new) result }
 {
     transaction.store_law();
@@ -167,12 +177,14 @@ pub fn carry_out<S: Alter + Drop>(
     match call {
         TableCall::Read(call) => {
             let answer = read(alloc, transaction, &call)?;
-            bytes_of(alloc, &answer)
+            let bytes = bytes_of(alloc, &answer)?;
+            let written = Vec::new(alloc);
+            Ok(Carried { bytes, written })
         }
         TableCall::Edit(call) => {
-            let done = bytes_of(alloc, &Answer::Done)?;
-            edit(alloc, transaction, call)?;
-            Ok(done)
+            let bytes = bytes_of(alloc, &Answer::Done)?;
+            let written = edit(alloc, transaction, call)?;
+            Ok(Carried { bytes, written })
         }
         TableCall::Apply(call) => apply(alloc, transaction, &call),
     }

@@ -13,13 +13,13 @@ use cs_calls_conversions::{
     declaration_of, declare_refusal, edit_refusal, key_of_call, key_values,
 };
 use cs_calls_parts::Columns;
-use cs_rows::{Edit, Schema};
+use cs_rows::{Edit, Schema, Written};
 use cs_store::Transaction;
 use cs_value::{Key, NoMemory, Row, Text};
 use sqlite::Alter;
 use std::alloc::Global;
 
-/// Declares a table without rows.
+/// Declares a table without rows. No key is written.
 ///
 /// # Errors
 ///
@@ -30,19 +30,20 @@ pub fn declare<S: Alter + Drop>(
     transaction: &mut Transaction<S>,
     table: &Text,
     columns: &Columns,
-) -> Result<(), Refused>
+) -> Result<Vec<Written>, Refused>
     ensures { Makes (λ tables. Declared tables table.now columns.now)
         (state S.Store transaction.old) (state S.Store transaction.new) result }
 {
     transaction.store_law();
     let it = declaration_of(alloc, columns)?;
     match transaction.declare(alloc, table.as_str(), &it.names, &it.keys, &it.refuses) {
-        Ok(()) => Ok(()),
+        Ok(()) => Ok(Vec::new(alloc)),
         Err(error) => Err(declare_refusal(alloc, table, error)),
     }
 }
 
-/// Carries out an edit of a table. A call names the row of an update or a deletion by the values of its key.
+/// Carries out an edit of a table, and returns the keys that it wrote. A call names the row of an update or a deletion by
+/// the values of its key.
 fn carry_out<S: Alter + Drop>(
     alloc: Global,
     transaction: &mut Transaction<S>,
@@ -50,14 +51,14 @@ fn carry_out<S: Alter + Drop>(
     schema: &Schema,
     key: &Row,
     edit: &Edit,
-) -> Result<(), Refused>
+) -> Result<Vec<Written>, Refused>
     ensures { Edits (λ tables. edit_outcome (of_edit_error table.now schema.now key.now edit.now)
         (edited tables edit.now)) (state S.Store transaction.old) (state S.Store transaction.new) result }
 {
-    let Err(error) = transaction.edit(alloc, edit) else {
-        return Ok(());
-    };
-    Err(edit_refusal(alloc, table, schema, key, edit, error))
+    match transaction.edit(alloc, edit) {
+        Ok(written) => Ok(written),
+        Err(error) => Err(edit_refusal(alloc, table, schema, key, edit, error)),
+    }
 }
 
 /// Returns the name of a table.
@@ -67,7 +68,7 @@ fn name_of(alloc: Global, table: &Text) -> Result<String, NoMemory>
     Ok(String::from_str(alloc, table.as_str())?)
 }
 
-/// Inserts a row. The transaction then has it under its key.
+/// Inserts a row, and returns the key that was written. The transaction then has it under its key.
 ///
 /// # Errors
 ///
@@ -82,7 +83,7 @@ pub fn insert<S: Alter + Drop>(
     transaction: &mut Transaction<S>,
     table: &Text,
     row: Row,
-) -> Result<(), Refused>
+) -> Result<Vec<Written>, Refused>
     ensures { Edits (λ tables. inserts tables table.now row)
         (state S.Store transaction.old) (state S.Store transaction.new) result }
 {
@@ -94,8 +95,8 @@ pub fn insert<S: Alter + Drop>(
     carry_out(alloc, transaction, table, &schema, &no_key, &edit)
 }
 
-/// Puts a row in the place of that of a key. It is then under its own key, and none is under the former one if that is
-/// another.
+/// Puts a row in the place of that of a key, and returns the keys that were written, with the rows from before. It is then
+/// under its own key, and none is under the former one if that is another.
 ///
 /// # Errors
 ///
@@ -108,7 +109,7 @@ pub fn update<S: Alter + Drop>(
     table: &Text,
     values: &Row,
     row: Row,
-) -> Result<(), Refused>
+) -> Result<Vec<Written>, Refused>
     ensures { Edits (λ tables. updates tables table.now values.now row)
         (state S.Store transaction.old) (state S.Store transaction.new) result }
 {
@@ -124,7 +125,7 @@ pub fn update<S: Alter + Drop>(
     carry_out(alloc, transaction, table, &schema, values, &edit)
 }
 
-/// Removes the row of a key. No row then has the key.
+/// Removes the row of a key, and returns the key with the row from before. No row then has the key.
 ///
 /// # Errors
 ///
@@ -135,7 +136,7 @@ pub fn delete<S: Alter + Drop>(
     transaction: &mut Transaction<S>,
     table: &Text,
     values: &Row,
-) -> Result<(), Refused>
+) -> Result<Vec<Written>, Refused>
     ensures { Edits (λ tables. deletes tables table.now values.now)
         (state S.Store transaction.old) (state S.Store transaction.new) result }
 {
@@ -159,7 +160,8 @@ fn putting(table: String, key: Key, row: Row, is_there: bool) -> Edit
     }
 }
 
-/// Puts a row in the place of the one that has its key, or inserts it. The transaction then has it under its key.
+/// Puts a row in the place of the one that has its key, or inserts it, and returns the key with the row from before, if
+/// there was one. The transaction then has it under its key.
 ///
 /// # Errors
 ///
@@ -170,7 +172,7 @@ pub fn put<S: Alter + Drop>(
     transaction: &mut Transaction<S>,
     table: &Text,
     row: Row,
-) -> Result<(), Refused>
+) -> Result<Vec<Written>, Refused>
     ensures { Edits (λ tables. puts tables table.now row)
         (state S.Store transaction.old) (state S.Store transaction.new) result }
 {

@@ -7,7 +7,7 @@
 //! ```
 //!
 //! `reading` has the calls that read, `editing` those that edit, and `applying` those that apply a changeset file.
-//! `calls` carries out any of them, and returns the bytes of the answer. A `service` is a store that answers calls.
+//! `calls` carries out any of them, and returns the bytes of the answer and the keys that were written.
 //! Each refusal has the parts that `CALLS` of the documents lists.
 #![tactic(auto)]
 
@@ -15,11 +15,9 @@ mod applying;
 mod calls;
 mod editing;
 mod reading;
-mod service;
 
 pub use applying::ApplyCall;
-pub use calls::{EditCall, ReadCall, TableCall, bytes_of, carry_out};
+pub use calls::{Carried, EditCall, ReadCall, TableCall, bytes_of, carry_out};
 pub use cs_calls_conversions::Page;
 pub use editing::{declare, delete, insert, put, update};
 pub use reading::{count_rows, list_tables, read_columns, read_page, read_row};
-pub use service::Service;

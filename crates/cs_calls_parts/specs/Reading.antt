@@ -22,6 +22,8 @@ use Rattle.cs_calls_parts.specs.declared.fault.CallFault.{CallFault}
 use Rattle.cs_calls_parts.specs.declared.fault.CallFaultKind.{CallFaultKind}
 use Rattle.cs_calls_parts.specs.declared.fault.CallFaultKind.TheVariants.{Field, UndefinedField as UndefinedValue, BadByte}
 use Rattle.cs_calls_parts.specs.declared.fault.Misread.{Misread}
+use Rattle.cs_calls_parts.specs.declared.conflicts.ChosenConflict.{ChosenConflict}
+use Rattle.cs_calls_parts.specs.declared.conflicts.FoundConflict.{FoundConflict}
 use Rattle.cs_calls_parts.specs.declared.lists.Column.{Column}
 
 -- ? of the code: the second step where the first gave a value
@@ -163,6 +165,22 @@ policy_of bytes = do
     },
     constraint.1,
   )
+
+unfoldable pub found_of : List ℕ → Result (FoundConflict × List ℕ) Misread
+found_of bytes = do
+  index ← wide_of bytes
+  kind ← kind_of index.1
+  table ← text_of kind.1
+  key ← row_of table.1
+  current ← option_of row_of key.1
+  Ok (record { index = index.0; kind = kind.0; table = table.0; key = key.0; current = current.0 }, current.1)
+
+-- a conflict, and the choice for it
+unfoldable pub chosen_of : List ℕ → Result (ChosenConflict × List ℕ) Misread
+chosen_of bytes = do
+  conflict ← found_of bytes
+  choice ← choice_of conflict.1
+  Ok (record { conflict = conflict.0; choice = choice.0 }, choice.1)
 
 -- the place of a fault, from the front
 abbrev pub placed : {X : Type 0} → ℕ → Result X Misread → Result X CallFault

@@ -1,9 +1,9 @@
 -- The bytes of calls: `docs/CALLS.md` has them in words. Values are spelled as in a changeset file.
-use Rattle.std.specs.Prelude.{◌≤◌, ℕ, List, [], ◌∷◌, ◌++◌, length, Bool, true, false, Option, None, Some, IsUtf8}
+use Rattle.std.specs.Prelude.{◌≤◌, ◌<◌, ◌^◌, ℕ, List, [], ◌∷◌, ◌++◌, length, Bool, true, false, Option, None, Some, IfSome, IsUtf8}
 use Rattle.std.specs.List.{flat_map, AllByRecursion}
 use Rattle.cs_value.specs.declared.TheConstants.{MAX_CONTENT_LEN}
 use Rattle.cs_value.specs.declared.value.OwnedValue.{OwnedValue}
-use Rattle.cs_value.specs.Value.{AreBytes}
+use Rattle.cs_value.specs.Value.{AreBytes, IsValue}
 use Rattle.cs_value.specs.Varint.{varint}
 use Rattle.cs_value.specs.Spelling.{counted, value_bytes}
 use Rattle.cs_apply_conflict_kinds.specs.declared.conflict.Choice.{Choice}
@@ -13,6 +13,8 @@ use Rattle.cs_apply_conflict_kinds.specs.declared.conflict.Kind.{Kind}
 use Rattle.cs_apply_conflict_kinds.specs.Conflicts.{choice_number, kind_number}
 use Rattle.std.specs.Int.{w64, to_be_bytes}
 use Rattle.cs_apply_engine.specs.declared.policy.Policy.{Policy}
+use Rattle.cs_calls_parts.specs.declared.conflicts.ChosenConflict.{ChosenConflict}
+use Rattle.cs_calls_parts.specs.declared.conflicts.FoundConflict.{FoundConflict}
 use Rattle.cs_calls_parts.specs.declared.lists.Column.{Column}
 
 -- a name: UTF-8, at most 2147483647 bytes
@@ -82,3 +84,36 @@ unfoldable pub policy_bytes : Policy → List ℕ
 policy_bytes policy =
     choice_bytes policy.on_data ++ choice_bytes policy.on_notfound ++ choice_bytes policy.on_conflict
     ++ choice_bytes policy.on_constraint
+
+-- ---- conflicts
+
+abbrev pub IsWide : ℕ → Type 0
+IsWide number = number < 2 ^ 64
+
+abbrev pub IsRowList : List OwnedValue → Type 0
+IsRowList values = IsList IsValue values
+
+unfoldable pub found_bytes : FoundConflict → List ℕ
+found_bytes found =
+    wide_bytes found.index ++ kind_bytes found.kind ++ counted found.table ++ row_bytes found.key
+    ++ option_bytes row_bytes found.current
+
+pub record IsFound (found : FoundConflict) : Type 0 where
+  pub index : IsWide found.index
+  pub table : IsText found.table
+  pub key : IsRowList found.key
+  pub current : IfSome found.current IsRowList
+
+pub record FoundCounts (found : FoundConflict) : Type 0 where
+  pub key : length found.key ≤ MAX_CONTENT_LEN
+  pub current : IfSome found.current (λ row. length row ≤ MAX_CONTENT_LEN)
+
+-- a conflict, and the choice for it
+unfoldable pub chosen_bytes : ChosenConflict → List ℕ
+chosen_bytes chosen = found_bytes chosen.conflict ++ choice_bytes chosen.choice
+
+abbrev pub IsChosen : ChosenConflict → Type 0
+IsChosen chosen = IsFound chosen.conflict
+
+abbrev pub ChosenCounts : ChosenConflict → Type 0
+ChosenCounts chosen = FoundCounts chosen.conflict

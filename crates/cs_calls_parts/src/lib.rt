@@ -8,15 +8,18 @@
 //! ```
 //!
 //! `step` reads the parts, one after another, and `spell` writes them. `part` has what lists are made of, and `lists`
-//! the lists of columns and choices. `fault` has the reasons why bytes are no part.
+//! the lists of columns and choices. `conflicts` has the conflicts for which choices are made, and `fault` the reasons
+//! why bytes are no part.
 #![tactic(auto)]
 
+mod conflicts;
 mod fault;
 mod lists;
 mod part;
 mod spell;
 mod step;
 
+pub use conflicts::{ChosenConflict, FoundConflict};
 pub use fault::{CallError, CallFault, CallFaultKind, Misread, Unread};
 pub use lists::{Choices, Column, Columns};
 pub use part::Part;

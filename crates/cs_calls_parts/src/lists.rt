@@ -1,7 +1,7 @@
 //! The lists of calls: columns and choices.
 ghost use Rattle.std.specs.Prelude.{◌≡◌};
 
-use cs_apply_engine::Choice;
+use crate::conflicts::ChosenConflict;
 use cs_value::Text;
 use std::marker::Model;
 
@@ -46,31 +46,31 @@ impl Columns {
     }
 }
 
-/// Choices for conflicts, in their order. Contracts see their list.
+/// Conflicts with the choices for them, in their order. Contracts see their list.
 #[derive(Drop)]
 pub struct Choices {
-    choices: Vec<Choice>,
+    choices: Vec<ChosenConflict>,
 }
 
 impl Model for Choices {
     ghost use Rattle.std.specs.Prelude.{List};
-    ghost use Rattle.cs_apply_conflict_kinds.specs.declared.conflict.Choice.{Choice};
+    ghost use Rattle.cs_calls_parts.specs.declared.conflicts.ChosenConflict.{ChosenConflict};
 
-    ghost Value = { List Choice };
+    ghost Value = { List ChosenConflict };
 
     ghost view = { λ c. c.choices.items };
 }
 
 impl Choices {
-    /// Returns the list of some choices. It allocates nothing.
-    pub fn new(choices: Vec<Choice>) -> Choices
+    /// Returns the list of some conflicts with choices. It allocates nothing.
+    pub fn new(choices: Vec<ChosenConflict>) -> Choices
         ensures { result ≡ choices.items }
     {
         Choices { choices }
     }
 
-    /// Returns the choices.
-    pub fn as_slice(&self) -> &[Choice]
+    /// Returns the conflicts with the choices.
+    pub fn as_slice(&self) -> &[ChosenConflict]
         ensures { result.now ≡ self.now }
     {
         &self.choices

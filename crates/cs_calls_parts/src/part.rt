@@ -3,14 +3,13 @@ ghost use Rattle.std.specs.Prelude.{◌≡◌, ◌≤◌, ◌++◌, ℕ, List, R
 ghost use Rattle.cs_value.specs.declared.TheConstants.{MAX_CONTENT_LEN};
 ghost use Rattle.cs_value.specs.Spelling.{value_bytes, counted};
 ghost use Rattle.cs_calls_parts.specs.declared.fault.Misread.{Misread as MisreadData};
-ghost use Rattle.cs_calls_parts.specs.Reading.{Gives, value_of, column_of, choice_of, row_of, text_of, wide_of};
-ghost use Rattle.cs_calls_parts.specs.Spelling.{column_bytes, choice_bytes, row_bytes, wide_bytes};
+ghost use Rattle.cs_calls_parts.specs.Reading.{Gives, value_of, column_of, row_of, text_of, wide_of};
+ghost use Rattle.cs_calls_parts.specs.Spelling.{column_bytes, row_bytes, wide_bytes};
 
 use crate::fault::Unread;
 use crate::lists::Column;
-use crate::spell::{write_choice, write_column, write_number, write_row, write_text, write_value};
-use crate::step::{read_choice, read_column, read_number, read_row, read_text, read_value};
-use cs_apply_engine::Choice;
+use crate::spell::{write_column, write_number, write_row, write_text, write_value};
+use crate::step::{read_column, read_number, read_row, read_text, read_value};
 use cs_value::{NoMemory, OwnedValue, Row, Text};
 use std::alloc::Global;
 
@@ -63,22 +62,6 @@ impl Part for Column {
 
     fn write(&self, out: &mut Vec<u8>) -> Result<(), NoMemory> {
         write_column(out, self)
-    }
-}
-
-impl Part for Choice {
-    ghost part_of = { choice_of };
-
-    ghost part_bytes = { choice_bytes };
-
-    ghost IsCounted = { λ _. Unit {0} };
-
-    fn read(_alloc: Global, bytes: &[u8]) -> Result<(Choice, &[u8]), Unread> {
-        read_choice(bytes)
-    }
-
-    fn write(&self, out: &mut Vec<u8>) -> Result<(), NoMemory> {
-        write_choice(out, *self)
     }
 }
 

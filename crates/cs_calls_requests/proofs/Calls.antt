@@ -8,8 +8,8 @@ use Rattle.cs_value.specs.declared.value.OwnedValue.{OwnedValue}
 use Rattle.cs_value.specs.Value.{AreBytes, IsValue}
 use Rattle.cs_value.specs.Varint.{varint}
 use Rattle.cs_value.specs.Spelling.{counted}
-use Rattle.std.specs.List.{AllByRecursion}
-use Rattle.cs_apply_conflict_kinds.specs.declared.conflict.Choice.{Choice}
+use Rattle.std.proofs.lemmas.List.Elements.{All-from_recursion}
+use Rattle.cs_value.proofs.ListLemmas.{AllByRecursion-weaker}
 use Rattle.cs_calls_requests.specs.declared.call.Call.{Call}
 use Rattle.cs_calls_requests.specs.declared.call.Call.TheVariants as call
 use Rattle.cs_calls_parts.specs.declared.fault.CallFaultKind.TheVariants.{ExtraBytes}
@@ -22,14 +22,15 @@ use Rattle.cs_calls_requests.specs.declared.kind.TableKind.TheVariants as table
 use Rattle.cs_calls_requests.specs.declared.kind.RowKind.{RowKind}
 use Rattle.cs_calls_requests.specs.declared.kind.RowKind.TheVariants as row
 use Rattle.cs_calls_requests.specs.Kinds.{kinds, kind_at, number_of as call_number, plain_call, table_call, row_call}
-use Rattle.cs_calls_parts.specs.Spelling.{IsText, IsFile, IsList, IsColumn, list_bytes, row_bytes, option_bytes, column_bytes, choice_bytes, noop_bytes, policy_bytes}
+use Rattle.cs_calls_parts.specs.Spelling.{ChosenCounts, IsChosen, IsText, IsFile, IsList, IsColumn, chosen_bytes, list_bytes, row_bytes, option_bytes, column_bytes, noop_bytes, policy_bytes}
 use Rattle.cs_calls_requests.specs.Laws.{CallBytes}
 use Rattle.cs_calls_requests.specs.Spelling.{HasCounts, IsCall, parts_of, call_bytes}
-use Rattle.cs_calls_parts.specs.Reading.{◌>>=◌, misread, number_of, counted_of, text_of, row_of, list_of, option_of, column_of, choice_of, noop_of, policy_of}
+use Rattle.cs_calls_parts.specs.Reading.{◌>>=◌, misread, number_of, counted_of, text_of, row_of, list_of, option_of, chosen_of, column_of, noop_of, policy_of}
 use Rattle.cs_calls_requests.specs.Reading.{call_of, call_by, call_at, whole_call}
 use Rattle.cs_calls_parts.proofs.Steps.{done, given, Takes, Takes-then, not_value, bind_ok, wanted_ok}
 use Rattle.cs_calls_requests.proofs.KindLemmas.{kind_number, kind_at-number}
-use Rattle.cs_calls_parts.proofs.Codecs.{IsCodec, Always, step, codec_number, codec_counted, codec_text, codec_list, codec_row, codec_option, codec_column, codec_choice, codec_noop, codec_policy}
+use Rattle.cs_calls_parts.proofs.Codecs.{IsCodec, Always, step, codec_number, codec_counted, codec_text, codec_list, codec_row, codec_option, codec_column, codec_noop, codec_policy}
+use Rattle.cs_calls_parts.proofs.ConflictCodecs.{chosen_counts, codec_chosen}
 
 -- the parts of a call of a kind were taken
 record TakesCall (kind : Kind) (bytes : List ℕ) (c : Call) (rest : List ℕ) : Type 0 where
@@ -124,11 +125,11 @@ call_takes Apply bytes c rest fits e =
     let ab = Takes-then bytes (counted a.value) a.rest (noop_bytes b.value) b.rest a.takes b.takes in
     taken Apply bytes (call.Apply a.value b.value d.value) d.rest c rest (record { takes = Takes-then bytes (counted a.value ++ noop_bytes b.value) b.rest (policy_bytes d.value) d.rest ab d.takes; is = a.is; numbered = refl {a = 14} }) d.goes_on
 call_takes ApplyChosen bytes c rest fits e =
-    let a = step IsFile counted counted_of codec_counted (λ file. noop_of file.1 >>= λ noop. list_of choice_of noop.1 >>= λ choices. Ok (call.ApplyChosen file.0 noop.0 choices.0, choices.1)) bytes (c, rest) fits e in
-    let b = step Always noop_bytes noop_of codec_noop (λ noop. list_of choice_of noop.1 >>= λ choices. Ok (call.ApplyChosen a.value noop.0 choices.0, choices.1)) a.rest (c, rest) a.takes.are_bytes a.goes_on in
-    let d = step (IsList Always) (list_bytes choice_bytes) (list_of choice_of) (codec_list Always choice_bytes choice_of codec_choice) (λ choices. Ok (call.ApplyChosen a.value b.value choices.0, choices.1)) b.rest (c, rest) b.takes.are_bytes b.goes_on in
+    let a = step IsFile counted counted_of codec_counted (λ file. noop_of file.1 >>= λ noop. list_of chosen_of noop.1 >>= λ choices. Ok (call.ApplyChosen file.0 noop.0 choices.0, choices.1)) bytes (c, rest) fits e in
+    let b = step Always noop_bytes noop_of codec_noop (λ noop. list_of chosen_of noop.1 >>= λ choices. Ok (call.ApplyChosen a.value noop.0 choices.0, choices.1)) a.rest (c, rest) a.takes.are_bytes a.goes_on in
+    let d = step (IsList IsChosen) (list_bytes chosen_bytes) (list_of chosen_of) (codec_list IsChosen chosen_bytes chosen_of codec_chosen) (λ choices. Ok (call.ApplyChosen a.value b.value choices.0, choices.1)) b.rest (c, rest) b.takes.are_bytes b.goes_on in
     let ab = Takes-then bytes (counted a.value) a.rest (noop_bytes b.value) b.rest a.takes b.takes in
-    taken ApplyChosen bytes (call.ApplyChosen a.value b.value d.value) d.rest c rest (record { takes = Takes-then bytes (counted a.value ++ noop_bytes b.value) b.rest (list_bytes choice_bytes d.value) d.rest ab d.takes; is = (a.is, d.is.few); numbered = refl {a = 15} }) d.goes_on
+    taken ApplyChosen bytes (call.ApplyChosen a.value b.value d.value) d.rest c rest (record { takes = Takes-then bytes (counted a.value ++ noop_bytes b.value) b.rest (list_bytes chosen_bytes d.value) d.rest ab d.takes; is = (a.is, d.is); numbered = refl {a = 15} }) d.goes_on
 call_takes Rehearse bytes c rest fits e =
     let a = step IsFile counted counted_of codec_counted (λ file. noop_of file.1 >>= λ noop. Ok (call.Rehearse file.0 noop.0, noop.1)) bytes (c, rest) fits e in
     let b = step Always noop_bytes noop_of codec_noop (λ noop. Ok (call.Rehearse a.value noop.0, noop.1)) a.rest (c, rest) a.takes.are_bytes a.goes_on in
@@ -165,11 +166,6 @@ whole_takes bytes c fits e =
 -- a text after two others
 regrouped : (a b c rest : List ℕ) → (a ++ b ++ c) ++ rest ≡ a ++ (b ++ (c ++ rest))
 regrouped a b c rest = append_assoc (a ++ b) c rest ∙ append_assoc a b (c ++ rest)
-
--- nothing is asked of choices
-all_choices : (choices : List Choice) → AllByRecursion Always choices
-all_choices [] = tt
-all_choices (choice ∷ choices) = (tt, all_choices choices)
 
 call_again : (c : Call) (rest : List ℕ) → IsCall c → call_at (call_bytes c ++ rest) ≡ Ok (c, rest)
 unfolding call_at call_by kind_at kinds call_number parts_of call_of plain_call table_call row_call IsCall
@@ -212,10 +208,10 @@ call_again (call.Apply file noop policy) rest is =
     ) refl
 call_again (call.ApplyChosen file noop choices) rest is =
     rw (
-      regrouped (counted file) (noop_bytes noop) (list_bytes choice_bytes choices) rest,
-      codec_counted.again file (noop_bytes noop ++ (list_bytes choice_bytes choices ++ rest)) is.0,
-      codec_noop.again noop (list_bytes choice_bytes choices ++ rest) tt,
-      (codec_list Always choice_bytes choice_of codec_choice).again choices rest (record { few = is.1; are_parts = all_choices choices }),
+      regrouped (counted file) (noop_bytes noop) (list_bytes chosen_bytes choices) rest,
+      codec_counted.again file (noop_bytes noop ++ (list_bytes chosen_bytes choices ++ rest)) is.0,
+      codec_noop.again noop (list_bytes chosen_bytes choices ++ rest) tt,
+      (codec_list IsChosen chosen_bytes chosen_of codec_chosen).again choices rest is.1,
     ) refl
 call_again (call.Rehearse file noop) rest is =
     rw (append_assoc (counted file) (noop_bytes noop) rest, codec_counted.again file (noop_bytes noop ++ rest) is, codec_noop.again noop rest tt) refl
@@ -259,7 +255,7 @@ call_counts call.Begin is = tt
 call_counts call.Commit is = tt
 call_counts call.RollBack is = tt
 call_counts (call.Apply file noop policy) is = tt
-call_counts (call.ApplyChosen file noop choices) is = is.1
+call_counts (call.ApplyChosen file noop choices) is = (is.1.few, All-from_recursion ChosenCounts choices (AllByRecursion-weaker IsChosen ChosenCounts chosen_counts choices is.1.are_parts))
 call_counts (call.Rehearse file noop) is = tt
 call_counts (call.Revert file) is = tt
 call_counts call.OpenSession is = tt

@@ -10,7 +10,7 @@ use Rattle.cs_calls_parts.specs.declared.fault.Misread.{Misread}
 use Rattle.cs_calls_requests.specs.declared.kind.Kind.{Kind}
 use Rattle.cs_calls_requests.specs.declared.kind.Kind.TheVariants.{Plain, OfTable, OfRow, Declare, Rows, Update, Apply, ApplyChosen, Rehearse, Revert}
 use Rattle.cs_calls_requests.specs.Kinds.{kind_at, plain_call, table_call, row_call}
-use Rattle.cs_calls_parts.specs.Reading.{choice_of, column_of, counted_of, list_of, misread, noop_of, number_of, option_of, placed, policy_of, row_of, text_of, ◌>>=◌}
+use Rattle.cs_calls_parts.specs.Reading.{chosen_of, column_of, counted_of, list_of, misread, noop_of, number_of, option_of, placed, policy_of, row_of, text_of, ◌>>=◌}
 
 -- the call of a kind
 unfoldable pub call_of : Kind → List ℕ → Result (Call × List ℕ) Misread
@@ -44,7 +44,7 @@ call_of Apply bytes = do
 call_of ApplyChosen bytes = do
   file ← counted_of bytes
   noop ← noop_of file.1
-  choices ← list_of choice_of noop.1
+  choices ← list_of chosen_of noop.1
   Ok (call.ApplyChosen file.0 noop.0 choices.0, choices.1)
 call_of Rehearse bytes = do
   file ← counted_of bytes

@@ -1,14 +1,12 @@
 -- The bytes of calls: `docs/CALLS.md` has them in words. Values are spelled as in a changeset file.
-use Rattle.std.specs.Prelude.{◌≤◌, ℕ, List, [], ◌∷◌, ◌++◌, length, IfSome}
+use Rattle.std.specs.Prelude.{◌≤◌, ℕ, List, [], ◌∷◌, ◌++◌, length, All, IfSome}
 use Rattle.cs_value.specs.declared.TheConstants.{MAX_CONTENT_LEN}
-use Rattle.cs_value.specs.declared.value.OwnedValue.{OwnedValue}
-use Rattle.cs_value.specs.Value.{IsValue}
 use Rattle.cs_value.specs.Varint.{varint}
 use Rattle.cs_value.specs.Spelling.{counted}
 use Rattle.cs_calls_requests.specs.declared.call.Call.{Call}
 use Rattle.cs_calls_requests.specs.declared.call.Call.TheVariants as call
 use Rattle.cs_calls_requests.specs.Kinds.{number_of}
-use Rattle.cs_calls_parts.specs.Spelling.{IsColumn, IsFile, IsList, IsText, choice_bytes, column_bytes, list_bytes, noop_bytes, option_bytes, policy_bytes, row_bytes}
+use Rattle.cs_calls_parts.specs.Spelling.{ChosenCounts, IsChosen, IsColumn, IsFile, IsList, IsRowList, IsText, chosen_bytes, column_bytes, list_bytes, noop_bytes, option_bytes, policy_bytes, row_bytes}
 
 -- the parts of a call
 unfoldable pub parts_of : Call → List ℕ
@@ -26,7 +24,7 @@ parts_of call.Begin = []
 parts_of call.Commit = []
 parts_of call.RollBack = []
 parts_of (call.Apply file noop policy) = counted file ++ noop_bytes noop ++ policy_bytes policy
-parts_of (call.ApplyChosen file noop choices) = counted file ++ noop_bytes noop ++ list_bytes choice_bytes choices
+parts_of (call.ApplyChosen file noop choices) = counted file ++ noop_bytes noop ++ list_bytes chosen_bytes choices
 parts_of (call.Rehearse file noop) = counted file ++ noop_bytes noop
 parts_of (call.Revert file) = counted file
 parts_of call.OpenSession = []
@@ -40,9 +38,6 @@ parts_of call.Limits = []
 -- the number of a call, and its parts
 abbrev pub call_bytes : Call → List ℕ
 call_bytes c = number_of c ∷ parts_of c
-
-abbrev pub IsRowList : List OwnedValue → Type 0
-IsRowList values = IsList IsValue values
 
 -- what is a call: its parts can be spelled
 unfoldable pub IsCall : Call → Type 0
@@ -60,7 +55,7 @@ IsCall call.Begin = Unit {0}
 IsCall call.Commit = Unit {0}
 IsCall call.RollBack = Unit {0}
 IsCall (call.Apply file noop policy) = IsFile file
-IsCall (call.ApplyChosen file noop choices) = IsFile file × (length choices ≤ MAX_CONTENT_LEN)
+IsCall (call.ApplyChosen file noop choices) = IsFile file × IsList IsChosen choices
 IsCall (call.Rehearse file noop) = IsFile file
 IsCall (call.Revert file) = IsFile file
 IsCall call.OpenSession = Unit {0}
@@ -87,7 +82,7 @@ HasCounts call.Begin = Unit {0}
 HasCounts call.Commit = Unit {0}
 HasCounts call.RollBack = Unit {0}
 HasCounts (call.Apply file noop policy) = Unit {0}
-HasCounts (call.ApplyChosen file noop choices) = length choices ≤ MAX_CONTENT_LEN
+HasCounts (call.ApplyChosen file noop choices) = (length choices ≤ MAX_CONTENT_LEN) × All ChosenCounts choices
 HasCounts (call.Rehearse file noop) = Unit {0}
 HasCounts (call.Revert file) = Unit {0}
 HasCounts call.OpenSession = Unit {0}

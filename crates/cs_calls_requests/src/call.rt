@@ -66,7 +66,7 @@ pub enum Call {
         noop: Noop,
         policy: Policy,
     },
-    /// Applies a changeset file, with a choice for each conflict that it meets.
+    /// Applies a changeset file, with a choice for each conflict that a rehearsal found.
     ApplyChosen {
         file: Bytes,
         noop: Noop,

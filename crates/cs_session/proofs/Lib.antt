@@ -1,7 +1,6 @@
 pub mod AttachLemmas
 pub mod ChangesLemmas
 pub mod EditLemmas
-pub mod KeptLemmas
 pub mod OutcomeLemmas
 pub mod RecordLemmas
 pub mod RewoundLemmas

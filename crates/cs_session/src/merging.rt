@@ -1,5 +1,6 @@
 //! Notes that a session merges: what another session noted of a transaction that is to be committed.
 ghost use Rattle.std.specs.Prelude.{◌≡◌, ◌⊎◌, map, IfOk, IfErr, OnOk};
+ghost use Rattle.cs_rows.specs.Editing.{written_of};
 ghost use Rattle.cs_session_notes.specs.declared.fault.SessionFault.TheVariants.{NoMemory as OutOfMemory};
 ghost use Rattle.cs_session_notes.specs.FirstImages.{recorded};
 ghost use Rattle.cs_session_notes.specs.Merging.{all_noted, unwritten};
@@ -7,6 +8,7 @@ ghost use Rattle.cs_session_notes.specs.Noting.{AreFormers, IsDamage};
 
 use crate::session::Session;
 use cs_session_notes::{AttachedTables, SessionFault};
+use cs_store::Written;
 use cs_value::NoMemory;
 use std::alloc::Global;
 use std::marker::Model;
@@ -46,6 +48,39 @@ impl Session {
     {
         let tables = AttachedTables::unwritten(alloc, self.tables.as_slice())?;
         Ok(Session { tables })
+    }
+
+    /// Notes keys that were written, each with the row from before, where their table is attached and they are not noted
+    /// yet.
+    ///
+    /// Call it in place of [`merge`](Session::merge) for the writes themselves, as
+    /// [`Transaction::edit`](cs_store::Transaction::edit) and a report return them.
+    ///
+    /// # Errors
+    ///
+    /// They come with the session as it was. `NoMemory` if out of memory, and
+    /// [`DamagedStore`](cs_store::StoreError::DamagedStore) if a row from before cannot be of the table that is attached
+    /// under the name.
+    pub fn note(
+        self,
+        alloc: Global,
+        written: &[Written],
+    ) -> Result<MergedSession, (SessionFault, Session)>
+        ensures noted { IfOk result (λ s. s
+            ≡ record { kept = self; all = recorded self (map written_of written.now) }) }
+        ensures formers { OnOk result (AreFormers self (map written_of written.now)) }
+        ensures refused { IfErr result (λ e. (e.0 ≡ OutOfMemory)
+            ⊎ (IsDamage e.0 × ¬ AreFormers self (map written_of written.now))) }
+        ensures same { IfErr result (λ e. e.1 ≡ self) }
+    {
+        let Session { mut tables } = self;
+        match tables.note_all(alloc, written) {
+            Ok(()) => Ok(MergedSession { tables }),
+            Err(fault) => {
+                tables.settle(false);
+                Err((fault, Session { tables }))
+            }
+        }
     }
 
     /// Merges the notes of another session: for each table that is attached here too, each key that is not noted here

@@ -73,6 +73,13 @@ impl Session {
         are_unwritten(self.tables.as_slice())
     }
 
+    /// Whether no table is attached. It takes no memory.
+    pub fn has_no_tables(&self) -> bool
+        ensures { IsTrue result ↔ (self.now ≡ []) }
+    {
+        self.tables.as_slice().is_empty()
+    }
+
     /// Has no effect. Its contract says that what a session remembers is well formed: it has no table twice, no key
     /// of a table twice, and each row fits its table.
     pub fn notes_law(&self)

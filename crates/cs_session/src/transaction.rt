@@ -18,11 +18,12 @@ ghost use Rattle.cs_session_notes.specs.Changes.{HasTables, IsCaused, IsChangesR
 ghost use Rattle.cs_session_notes.specs.FirstImages.{IsNotes, rewound, recorded_changes};
 ghost use Rattle.cs_session_notes.specs.Views.{attached_of, kept_of};
 ghost use Rattle.cs_session.specs.Recording.{Records, RefusesEdit, IsEditRefusal, RecordsApply, RefusesApply, IsApplyRefusal};
-ghost use Rattle.cs_session.specs.Undoing.{LeadsBackTo};
+ghost use Rattle.cs_session.specs.Undoing.{IsUndoRefusal, IsUndoWrite, LeadsBackTo, Undoes, UndoesInto};
 
 use crate::applying::apply_rows;
 use crate::editing::edit_rows;
 use crate::session::Session;
+use crate::undoing::undo_rows;
 use cs_apply::{Choice, Conflict, Direction, Noop, Report};
 use cs_session_notes::{AttachedTables, SessionFault, net_changeset};
 use cs_store::{Edit, Transaction};
@@ -214,6 +215,41 @@ impl Session {
         transaction.store_law();
         transaction.mark()?;
         let result = net_changeset(alloc, transaction, self.tables.as_slice());
+        transaction.end_call(result.is_ok())?;
+        result
+    }
+
+    /// Restores the rows that the attached tables had, as [`undo`](Session::undo) does, in a transaction. What is noted
+    /// stays. Nothing is committed.
+    ///
+    /// # Errors
+    ///
+    /// `StoreFault` or `NoMemory` if the transaction has ended. Otherwise [`WrongStore`](SessionFault::WrongStore) if
+    /// the transaction does not show each table as it was attached, and `StoreFault`, `NoMemory` or `DamagedStore` if
+    /// the database refuses, memory runs out or a row cannot be of its table. A refusal leaves what one of
+    /// [`edit_in_transaction`](Session::edit_in_transaction) leaves.
+    pub fn undo_in_transaction<S: Alter + Drop>(
+        &self,
+        alloc: Global,
+        transaction: &mut Transaction<S>,
+    ) -> Result<Report, SessionFault>
+        ensures undone { HasCleanDisk (state S.Store transaction.new) → IfOk result (λ report.
+            Undoes self.now (tables_in (state S.Store transaction.old).now) report
+            (tables_in (state S.Store transaction.new).now)) }
+        ensures refused { HasCleanDisk (state S.Store transaction.new)
+            → IfErr result (RefusesChanges (tables_in (state S.Store transaction.old).now) self.now) }
+        ensures caused { HasCleanDisk (state S.Store transaction.new) → IfErr result (IsCaused (BatchFails
+            (Writes (IsUndoWrite self.now (tables_in (state S.Store transaction.old).now)))
+            (state S.Store transaction.old) (state S.Store transaction.new))) }
+        ensures named { IfErr result IsUndoRefusal }
+        ensures over { HasCleanDisk (state S.Store transaction.new)
+            → (state S.Store transaction.old).in_transaction ≡ false → IfErr result IsResource }
+        ensures within { Within (UndoesInto self.now (tables_in (state S.Store transaction.old).now)) IsRowsRefusal
+            (state S.Store transaction.old) (state S.Store transaction.new) result }
+    {
+        transaction.store_law();
+        transaction.mark()?;
+        let result = undo_rows(alloc, transaction, self.tables.as_slice());
         transaction.end_call(result.is_ok())?;
         result
     }

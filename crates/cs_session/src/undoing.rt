@@ -1,8 +1,8 @@
 //! The rows from before, restored.
-ghost use Rattle.std.specs.Prelude.{◌≡◌, map, IfOk, IfErr, is_ok};
+ghost use Rattle.std.specs.Prelude.{◌≡◌, map, IfOk, IfErr};
 ghost use Rattle.cs_value.specs.State.{IsState};
 ghost use Rattle.cs_session_notes.specs.FirstImages.{IsNotes};
-ghost use Rattle.cs_session_notes.specs.Changes.{RefusesChanges, IsCaused};
+ghost use Rattle.cs_session_notes.specs.Changes.{RefusesChanges, IsCaused, is_answered};
 ghost use Rattle.cs_session.specs.Undoing.{Undoes, IsUndoRefusal, IsUndoWrite};
 ghost use Rattle.cs_session_notes.specs.Views.{attached_of};
 
@@ -29,7 +29,7 @@ pub(crate) fn undo_rows<B: Rows>(
         (IsUndoWrite (map attached_of tables.now) (B.state rows.old)) rows.old rows.new)) }
     ensures was_honest { B.is_honest rows.new → B.is_honest rows.old }
     ensures kept { B.keeps (IsUndoWrite (map attached_of tables.now) (B.state rows.old))
-        (is_ok result) rows.old rows.new }
+        (is_answered result) rows.old rows.new }
 {
     changeset_files_law();
     let changeset = net_changeset(alloc, rows, tables)?;

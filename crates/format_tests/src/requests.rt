@@ -25,7 +25,7 @@ const CALLS: &[(&str, &[u8])] = &[
     ("commit", b"\x0c"),
     ("roll back", b"\x0d"),
     ("apply", b"\x0e\x02T\x01\x01\x00\x01\x02\x00"),
-    ("apply with choices", b"\x0f\x00\x00\x03\x02\x01\x00"),
+    ("apply with choices", CHOSEN),
     ("rehearse", b"\x10\x01T\x01"),
     ("revert", b"\x11\x01T"),
     ("open session", b"\x12"),
@@ -39,6 +39,11 @@ const CALLS: &[(&str, &[u8])] = &[
 
 /// At most three rows of `notes` after the key 7.
 const AFTER: &[u8] = b"\x05\x05notes\x01\x01\x01\x00\x00\x00\x00\x00\x00\x00\x07\x03";
+
+/// Two conflicts with choices, the second one with the row that is there.
+const CHOSEN: &[u8] = b"\x0f\x00\x00\x02\
+    \0\0\0\0\0\0\0\x01\x01\x01t\x01\x03\x01x\x00\x02\
+    \0\0\0\0\0\0\0\x02\x03\x01t\x01\x03\x01y\x01\x02\x03\x01y\x05\x00";
 
 /// Returns the name of a call.
 fn name_of(call: &Call) -> &'static str {
@@ -103,7 +108,10 @@ fn has_its_parts(call: &Call) -> bool {
         }
         Call::ApplyChosen { noop, choices, .. } => {
             *noop == Noop::Report
-                && choices.as_slice() == [Choice::Abort, Choice::Replace, Choice::Omit].as_slice()
+                && matches!(choices.as_slice(), [first, second]
+                    if first.choice == Choice::Abort && first.conflict.index == 1
+                    && first.conflict.current.is_none() && second.choice == Choice::Omit
+                    && second.conflict.current.is_some())
         }
         _ => true,
     }
@@ -138,7 +146,17 @@ const FAULTS: &[(&[u8], u8, usize)] = &[
     (b"\x05\x01t\x02", 90, 3),
     (b"\x0e\x01T\x02", 90, 3),
     (b"\x0e\x01T\x00\x00\x00\x03", 90, 6),
-    (b"\x0f\x01T\x00\x01\x03", 90, 5),
+    (b"\x0f\x01T\x00\x01\x03", 1, 6),
+    (
+        b"\x0f\x01T\x00\x01\0\0\0\0\0\0\0\x01\x05\x01t\x00\x00\x00",
+        90,
+        13,
+    ),
+    (
+        b"\x0f\x01T\x00\x01\0\0\0\0\0\0\0\x01\x01\x01t\x00\x00\x03",
+        90,
+        18,
+    ),
     // The first part that cannot be read decides.
     (b"\x05\x01t\x01\x02\x05\x03\x88\x80\x80\x80\x00\x03", 4, 7),
     (b"\x02\x88\x80\x80\x80", 1, 5),

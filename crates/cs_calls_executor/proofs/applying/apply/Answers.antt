@@ -3,7 +3,7 @@ use Rattle.std.proofs.Common.{Bool, subst}
 use Rattle.sqlite.specs.Held.{state}
 use Rattle.cs_store.specs.Within.{EndsCall}
 use Rattle.cs_calls_executor.proofs.MarkLemmas.{marked_apply, unmarked_apply, unreleased_apply}
-use Rattle.cs_calls_executor.proofs.ServiceLemmas.{resource}
+use Rattle.cs_calls_executor.proofs.CallLemmas.{resource}
 use Rattle.cs_calls_executor.proofs.applying.apply.Goals as goal
 
 pub returns-in-Err : goal.returns-in-Err

@@ -1,5 +1,5 @@
 -- `undoing::undo_rows`: the clauses `refused`, `undone`, `caused` and `kept`.
-use Rattle.std.proofs.Common.{false, List, map, rules, ap, subst}
+use Rattle.std.proofs.Common.{List, map, rules, ap, subst}
 use Rattle.std.proofs.lemmas.Result.{err_from_is_err_and}
 use Rattle.cs_wire.specs.Changeset.{GroupData, file_bytes}
 use Rattle.cs_apply_engine.specs.declared.running.Direction.TheVariants.{Inverse}
@@ -7,9 +7,8 @@ use Rattle.cs_apply_engine.specs.Running.{directed}
 use Rattle.cs_apply_engine.specs.Writes.{IsRunWrite}
 use Rattle.cs_session.specs.Undoing.{IsUndoWrite}
 use Rattle.cs_session_notes.specs.Views.{attached_of}
-use Rattle.cs_session_notes.proofs.CauseLemmas.{caused_on, run_caused_on}
+use Rattle.cs_session_notes.proofs.CauseLemmas.{caused_on, own_of_run, run_caused_on}
 use Rattle.cs_session.proofs.OutcomeLemmas.{undoes, refuses_undo}
-use Rattle.cs_session.proofs.KeptLemmas.{refused_keeps}
 use Rattle.cs_session.proofs.undoing.undo_rows.Goals as goal
 
 pub returns-in_err-run_changeset_in-clause-refused : goal.returns-in_err-run_changeset_in-clause-refused
@@ -53,20 +52,19 @@ pub returns-in_err-changeset-clause-kept : goal.returns-in_err-changeset-clause-
 returns-in_err-changeset-clause-kept g c =
     let p = err_from_is_err_and c.from_residual.result c.from_residual.ensures.1 in
     let Is = IsUndoWrite (map attached_of c.args.tables.now) (g.B.Rows.state c.args.rows.now) in
-    rw p.1 (refused_keeps (g.B.Rows.keeps Is) (λ a b. g.B.Rows.keeps_refused Is false a b) _ _ _ (g.B.Rows.keeps_so _ Is _ _ _ (λ held write h none. absurd none) c.in_err-changeset.ensures.kept))
+    rw (p.1, p.2) (g.B.Rows.keeps_so _ Is _ _ _ (λ held write h none. absurd none) c.in_err-changeset.ensures.kept)
 
 pub returns-in_err-run_changeset_in-clause-kept : goal.returns-in_err-run_changeset_in-clause-kept
 returns-in_err-run_changeset_in-clause-kept g c =
     let Is = IsUndoWrite (map attached_of c.args.tables.now) (g.B.Rows.state c.args.rows.now) in
     let p = err_from_is_err_and c.from_residual-in_err-run_changeset_in.result c.from_residual-in_err-run_changeset_in.ensures.1 in
-    rw p.1
-    (refused_keeps (g.B.Rows.keeps Is) (λ a b. g.B.Rows.keeps_refused Is false a b) _ _ _
+    rw (p.1, p.2, own_of_run c.in_err-run_changeset_in.field-0.0 c.in_err-run_changeset_in.ensures.named)
     (g.B.Rows.keeps_then Is _ _ _ _ (g.B.Rows.keeps_so _ Is _ _ _ (λ held write h none. absurd none) c.in_ok-changeset.ensures.kept)
     (g.B.Rows.keeps_so _ Is _ _ _
     (λ held write honest is.
     let before = c.run_changeset_in.ensures.was_honest honest in
     (c.in_ok-changeset.ensures.attached before, subst (λ (groups : List GroupData). IsRunWrite (directed Inverse groups) held write) (c.in_ok-changeset.ensures.made before) is))
-    c.in_err-run_changeset_in.ensures.kept)))
+    c.in_err-run_changeset_in.ensures.kept))
 
 pub returns-clause-kept : goal.returns-clause-kept
 returns-clause-kept g c =

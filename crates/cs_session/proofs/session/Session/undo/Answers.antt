@@ -1,4 +1,4 @@
--- `session::Session::undo`: what `undo_rows` asks for, the clauses `undone`, `caused`, `transacts`.
+-- `session::Session::undo`: what `undo_rows` asks for, the clauses `undone`, `refused`, `caused`, `transacts`.
 use Rattle.std.proofs.Common.{◌≡◌, ap, map, refl, subst, sym, ◌∙◌}
 use Rattle.std.proofs.lemmas.Result.{err_from_is_err_and}
 use Rattle.sqlite.specs.Held.{state}
@@ -15,7 +15,7 @@ use Rattle.cs_store.specs.Faults as stores
 use Rattle.cs_store.proofs.FailureLemmas.{begin_fails, commit_fails, work_fails}
 use Rattle.cs_session_notes.proofs.CauseLemmas.{caused_on, rows_caused_on}
 use Rattle.cs_value.specs.State.{State}
-use Rattle.cs_session_notes.specs.Changes.{IsCaused}
+use Rattle.cs_session_notes.specs.Changes.{IsCaused, RefusesChanges}
 use Rattle.cs_session.proofs.session.Session.undo.Goals as goal
 
 pub undo_rows-requires-clause-state : goal.undo_rows-requires-clause-state
@@ -109,3 +109,19 @@ returns-in_err-commit-clause-caused g c clean =
     let mid_clean = was_clean mid last survives last_clean in
     rw (← same) (rows_caused_on c.from_residual-in_err-commit.result _ _ c.in_err-commit.field-0.0 c.from_residual-in_err-commit.ensures.1
     (commit_fails _ old begun mid last c.in_ok-batch.ensures.begun c.in_ok-batch.ensures.survives kept.1 mid_clean survives.counts (kept.2 refl mid_clean).inside) (c.in_err-commit.ensures.caused last_clean))
+
+pub returns-in_err-report-clause-refused : goal.returns-in_err-report-clause-refused
+returns-in_err-report-clause-refused g c clean =
+    let old = state g.S.Store c.args.store.now in
+    let begun = state g.S.Store c.in_ok-batch.batch.store.now in
+    let mid = state g.S.Store c.undo_rows.new.rows.store.now in
+    let last = state g.S.Store c.drop-batch.new.self.0 in
+    let same : c.drop-batch.new.self.0 ≡ c.store-in_err-report-1.given.0 = sym (c.store-in_err-report-1.given.1 (sym (c.undo_rows.ensures.kept.0 ∙ c.in_ok-batch.ensures.same_reference))) in
+    let last_clean : HasCleanDisk last = rw same clean in
+    let keeps = c.undo_rows.ensures.kept.1 in
+    let mid_clean = was_clean mid last c.drop-batch.ensures.survives last_clean in
+    let tables = begun_tables old begun mid c.in_ok-batch.ensures.begun keeps mid_clean in
+    let notes : map attached_of c.as_slice.result.now ≡ c.args.self.now = ap (map attached_of) c.as_slice.ensures ∙ c.self.view_is in
+    let refused = subst (λ (s : State). RefusesChanges s (map attached_of c.as_slice.result.now) c.in_err-report.field-0.0) tables (c.in_err-report.ensures.refused mid_clean) in
+    let p = err_from_is_err_and c.from_residual-in_err-report.result c.from_residual-in_err-report.ensures.1 in
+    rw (p.1, p.2) (rw notes at refused)

@@ -1,0 +1,4 @@
+mod AloneLemmas
+mod NotedLemmas
+mod ServiceLemmas
+mod SessionLemmas
