@@ -13,14 +13,14 @@ use Rattle.sqlite_value.specs.declared.value.Value.TheVariants.{Null}
 use Rattle.sqlite_value.specs.declared.keys.Key.{Key}
 use Rattle.sqlite_trees.specs.Tree.{Trees, IsAscending}
 use Rattle.sqlite_trees.proofs.ListLemmas.{map-map, along_permutation, ascending_from_map}
-use Rattle.sqlite_sql.specs.Term.{Term, eval_all, holds}
-use Rattle.sqlite_sql.specs.Query.{Query, IsAnswer, output, output_cmp, key_cmp, Output}
+use Rattle.sqlite_sql.specs.Term.{Term, eval, eval_all, holds}
+use Rattle.sqlite_sql.specs.Query.{Query, IsAnswer, output, output_cmp, key_cmp, Output, as_count, limited}
 use Rattle.sqlite_sql.specs.Program.{overlay}
 use Rattle.sqlite_schema.specs.declared.command.Command.TheVariants.{Select}
 use Rattle.sqlite_sql.proofs.QueryLemmas.{output_cmp_total}
 use Rattle.sqlite.specs.State.{State, Shown}
 use Rattle.sqlite.proofs.Callers.{reads_as}
-use Rattle.cs_store_sql.specs.Statements.{plain_query, alone, IsSelect}
+use Rattle.cs_store_sql.specs.Statements.{limited_query, alone, IsSelect}
 use Rattle.cs_store_sql.proofs.QueryTexts.{unlisted, plainly, commands}
 use Rattle.cs_store_sql.proofs.RowLemmas.{ascending_from_pairs}
 
@@ -77,12 +77,12 @@ shown_of q params row = eval_all q.project (params ∷ row ∷ [])
 abbrev pub sorts : Query → Row → Row → Row → Ordering
 sorts q params a b = key_cmp 0 (map (λ k. k.1) q.order) (eval_all (map (λ k. k.0) q.order) (params ∷ a ∷ [])) (eval_all (map (λ k. k.0) q.order) (params ∷ b ∷ []))
 
--- the rows that pass, in the order that is asked for
+-- the rows that pass, in the order that is asked for, and as many as are asked for
 pub record ShowsChosen (q : Query) (rows : List Row) (params : Row) (shown : List Row) : Type 0 where
   pub chosen : List Row
   pub same : IsPermutation (filter (passes_where q params) rows) chosen
   pub rising : IsAscending (λ a b. is_lt (sorts q params b a) ≡ false) chosen
-  pub is : shown ≡ map (shown_of q params) chosen
+  pub is : shown ≡ limited (as_count (eval q.limit (params ∷ []))) (map (shown_of q params) chosen)
 
 -- what was made of elements is in order, and so are they
 rising_of : {A B : Type 0} (f : A → B) (cmp : B → B → Ordering) → IsTotalOrder cmp → (xs : List A) → IsSorted cmp (map f xs) → IsAscending (λ a b. is_lt (cmp (f b) (f a)) ≡ false) xs
@@ -91,10 +91,11 @@ rising_of f cmp total xs sorted =
     (ascending_from_pairs (λ a b. is_lt (cmp b a) ≡ false) (map f xs) (λ i j d below low. sorted_far (λ x y. is_lt (cmp x y)) (ranks_by total (λ x. x)) (map f xs) sorted i j d (omega arith) low))
 
 -- the answer of a query over one table shows the rows that pass, in the order that is asked for
-pub answer_chosen : (tree : ℕ) (terms project : List Term) (order : List (Term × Key)) (db : Trees) (params : Row) (rows : List Row) → IsAnswer (plain_query tree terms project order) db params rows
-    → ShowsChosen (plain_query tree terms project order) (db tree) params rows
-answer_chosen tree terms project order db params rows a =
-    let q = plain_query tree terms project order in
+pub answer_chosen : (tree : ℕ) (terms project : List Term) (order : List (Term × Key)) (limit : Term) (db : Trees) (params : Row) (rows : List Row) → IsAnswer (limited_query tree terms project order limit) db params rows
+    → ShowsChosen (limited_query tree terms project order limit) (db tree) params rows
+answer_chosen tree terms project order limit db params rows a =
+    let q = limited_query tree terms project order limit in
+    let most = as_count (eval limit (params ∷ [])) in
     let made : Row → Output = λ r. output q (params ∷ r ∷ []) in
     let passing = filter (passes_where q params) (db tree) in
     let staged : a.staged ≡ map (λ r. params ∷ r ∷ []) passing = a.grouped ∙ chosen_matches (passes_where q params) (λ r. params ∷ r ∷ []) (db tree) in
@@ -105,7 +106,7 @@ answer_chosen tree terms project order db params rows a =
       chosen = found.0;
       same = found.1;
       rising = rising_of made (output_cmp q) (output_cmp_total q) found.0 sorted;
-      is = a.shown ∙ ap (map (λ (o : Output). o.1)) found.2 ∙ map-map (λ (o : Output). o.1) made found.0;
+      is = a.shown ∙ ap (λ os. limited most (map (λ (o : Output). o.1) os)) found.2 ∙ ap (limited most) (map-map (λ (o : Output). o.1) made found.0);
     }
 
 -- where a statement computes no table, it reads those of the database
@@ -115,12 +116,12 @@ overlay_none db tree =
     elim (nat_le (2 ^ 31) tree) as (λ b. unwrap_or (cond b (slice_get none (tree - 2 ^ 31)) None) (db tree) ≡ db tree) [ true ↦ refl | false ↦ refl ]
 
 -- a text that is that query shows it
-pub shows_chosen : {count : ℕ} (sql : List ℕ) (tree : ℕ) (terms project : List Term) (order : List (Term × Key)) (params : Row) (old new : State) (rows : List Row)
-    → IsSelect old.now.schema sql count (plain_query tree terms project order) → Shown sql params old new rows
-    → ShowsChosen (plain_query tree terms project order) (old.now.trees tree) params rows
-shows_chosen sql tree terms project order params old new rows asks shown =
-    let q = plain_query tree terms project order in
+pub shows_chosen : {count : ℕ} (sql : List ℕ) (tree : ℕ) (terms project : List Term) (order : List (Term × Key)) (limit : Term) (params : Row) (old new : State) (rows : List Row)
+    → IsSelect old.now.schema sql count (limited_query tree terms project order limit) → Shown sql params old new rows
+    → ShowsChosen (limited_query tree terms project order limit) (old.now.trees tree) params rows
+shows_chosen sql tree terms project order limit params old new rows asks shown =
+    let q = limited_query tree terms project order limit in
     let it = asks.0 in
     let is = commands old.now.schema sql it asks.1 ∙ asks.2.1 in
     let reads = reads_as sql params old new old.now.schema refl (Select (alone q) asks.2.0) is (plainly old.now.schema sql it asks.1) (unlisted old.now.schema sql it asks.1.is) rows shown in
-    subst (λ l. ShowsChosen q l params rows) (overlay_none old.now.trees tree) (answer_chosen tree terms project order (overlay old.now.trees []) params rows (reads.answer Null))
+    subst (λ l. ShowsChosen q l params rows) (overlay_none old.now.trees tree) (answer_chosen tree terms project order limit (overlay old.now.trees []) params rows (reads.answer Null))

@@ -16,7 +16,7 @@ use Rattle.sqlite_resolve.specs.declared.error.CompileError.{CompileError}
 use Rattle.sqlite_tied.specs.Compute.{everything}
 use Rattle.cs_store_sql.specs.Records.{required, records_table, IsApart, IsOfKey, DeclaresRecords, IsDeclaredOtherwise, LacksRecords}
 use Rattle.cs_store_sql.specs.Meaning.{AreStatements}
-use Rattle.cs_store_sql.specs.Statements.{find_text, find_query, list_text, list_query, scan_text, scan_query, put_text, put_command, remove_text, remove_command, alone, IsStatement, IsSelectOf}
+use Rattle.cs_store_sql.specs.Statements.{find_text, find_query, list_text, list_query, page_text, page_query, scan_text, scan_query, put_text, put_command, remove_text, remove_command, alone, IsStatement, IsSelectOf}
 
 -- ---- schemas
 
@@ -68,6 +68,7 @@ Commands schema sql count command = Says sql count (λ its. its ≡ command) (co
 record Texts (schema : Schema) (index tree : ℕ) : Type 0 where
   finds : Selects schema find_text 2 (find_query tree)
   lists : Selects schema list_text 1 (list_query tree)
+  pages : Selects schema page_text 3 (page_query tree)
   scans : Selects schema scan_text 0 (scan_query tree)
   inserts : Commands schema (put_text true) 3 (put_command index tree true)
   puts : Commands schema (put_text false) 3 (put_command index tree false)
@@ -77,6 +78,7 @@ statements : (schema : Schema) (index tree : ℕ) → Texts schema index tree �
 statements schema index tree t = record {
   finds = said schema find_text 2 (λ its. IsSelectOf its (alone (find_query tree))) t.finds;
   lists = said schema list_text 1 (λ its. IsSelectOf its (alone (list_query tree))) t.lists;
+  pages = said schema page_text 3 (λ its. IsSelectOf its (alone (page_query tree))) t.pages;
   scans = said schema scan_text 0 (λ its. IsSelectOf its (alone (scan_query tree))) t.scans;
   writes = record {
     inserts = said schema (put_text true) 3 (λ its. its ≡ put_command index tree true) t.inserts;
@@ -94,6 +96,7 @@ unfolding compiled first everything
 texts_alone = record {
   finds = (refl, refl, omega arith, refl, (_, refl));
   lists = (refl, refl, omega arith, refl, (_, refl));
+  pages = (refl, refl, omega arith, refl, (_, refl));
   scans = (refl, refl, omega arith, refl, (_, refl));
   inserts = (refl, refl, omega arith, refl, refl);
   puts = puts_alone;
@@ -109,6 +112,7 @@ unfolding compiled first everything
 texts_after = record {
   finds = (refl, refl, omega arith, refl, (_, refl));
   lists = (refl, refl, omega arith, refl, (_, refl));
+  pages = (refl, refl, omega arith, refl, (_, refl));
   scans = (refl, refl, omega arith, refl, (_, refl));
   inserts = (refl, refl, omega arith, refl, refl);
   puts = puts_after;

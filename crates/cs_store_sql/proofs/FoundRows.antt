@@ -89,7 +89,7 @@ pub finds : (tab key : List ℕ) (old new : State) (rows : List Row) → HoldsRe
 finds tab key old new rows h shown =
     let all = record_rows old.now in
     let records = are_records old.now h in
-    let s = shows_chosen find_text (records_tree old.now.schema) _ _ _ (Text tab ∷ Blob key ∷ []) old new rows h.declares.statements.finds shown in
+    let s = shows_chosen find_text (records_tree old.now.schema) _ _ _ _ (Text tab ∷ Blob key ∷ []) old new rows h.declares.statements.finds shown in
     s.is ∙ shown_found all tab key _ s.chosen records (records_under all tab key) (subst (λ l. IsPermutation l s.chosen) (filter-at_key tab key [] all records) s.same)
 
 -- the first row that is shown gives the value, and where there is none there is no value

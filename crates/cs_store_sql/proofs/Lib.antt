@@ -9,6 +9,7 @@ pub mod FoundRows
 pub mod ListedRows
 pub mod MarkLemmas
 pub mod OrderLemmas
+pub mod PagedRows
 mod PlaceLemmas
 pub mod PutLemmas
 pub mod QueryLemmas

@@ -30,7 +30,7 @@ use Rattle.cs_store_sql.proofs.AnswerLemmas.{passes_where, sorts, shows_chosen}
 use Rattle.cs_store_sql.proofs.FoundRows.{name_passes}
 
 -- rows of records that are in order rise, where rows that tie in that order have one key
-rise : (by cmp : Row → Row → Ordering) → IsTotalOrder cmp → ((a b : Row) → IsRecordRow a → IsRecordRow b → by a b ≡ cmp a b)
+pub rise : (by cmp : Row → Row → Ordering) → IsTotalOrder cmp → ((a b : Row) → IsRecordRow a → IsRecordRow b → by a b ≡ cmp a b)
     → (rows : List Row) → ((a b : Row) → Has rows a → Has rows b → cmp a b ≡ Equal → HaveOneKey a b) → AreRecords rows → IsAscending (λ a b. is_lt (by b a) ≡ false) rows
     → IsAscending (λ a b. cmp a b ≡ Less) rows
 rise by cmp total same rows one h up =
@@ -43,13 +43,13 @@ rise by cmp total same rows one h up =
 -- ---- the records under a name
 
 -- what a row shows, the test for a name and the order by keys, on the bytes of its values
-abbrev keyed_of : Row → List ℕ × List ℕ
+abbrev pub keyed_of : Row → List ℕ × List ℕ
 keyed_of row = (content (column row 2), content (column row 3))
 
-abbrev has_name : List ℕ → Row → Bool
+abbrev pub has_name : List ℕ → Row → Bool
 has_name tab row = bytes_eq (content (column row 1)) tab
 
-abbrev by_key : Row → Row → Ordering
+abbrev pub by_key : Row → Row → Ordering
 by_key a b = slice_cmp nat_cmp (content (column a 2)) (content (column b 2))
 
 -- on rows of records the query tests and sorts by these
@@ -64,7 +64,7 @@ below_entries : {X : Type 0} (key : List ℕ) (entries : List (List ℕ × X)) �
 below_entries key [] h = refl
 below_entries key (e ∷ entries) h = and_from _ _ (ap is_lt h.0) (below_entries key entries h.1)
 
-sorted_entries : {X : Type 0} (entries : List (List ℕ × X)) → IsAscending (λ a b. slice_cmp nat_cmp a.0 b.0 ≡ Less) entries → IsTrue (is_sorted (slice_cmp nat_cmp) entries)
+pub sorted_entries : {X : Type 0} (entries : List (List ℕ × X)) → IsAscending (λ a b. slice_cmp nat_cmp a.0 b.0 ≡ Less) entries → IsTrue (is_sorted (slice_cmp nat_cmp) entries)
 sorted_entries [] up = refl
 sorted_entries (e ∷ entries) up = and_from _ _ (below_entries e.0 entries up.0) (sorted_entries entries up.1)
 
@@ -78,7 +78,7 @@ found_step f false true true x e o same named rest = absurd cc
 found_step f false true false x e o same named rest = rest
 
 -- among rows of one name the key finds the entry of the row
-found_entry : (tab key : List ℕ) (rows : List Row) → AllByRecursion (λ row. has_name tab row ≡ true) rows
+pub found_entry : (tab key : List ℕ) (rows : List Row) → AllByRecursion (λ row. has_name tab row ≡ true) rows
     → find_entry (slice_cmp nat_cmp) key (map keyed_of rows) ≡ records_of rows tab key
 unfolding records_of
 found_entry tab key [] named = refl
@@ -94,7 +94,7 @@ lists_table tab old new rows h shown =
     let all = record_rows old.now in
     let tree = records_tree old.now.schema in
     let records = are_records old.now h in
-    let s = shows_chosen list_text tree _ _ _ (Text tab ∷ []) old new rows h.declares.statements.lists shown in
+    let s = shows_chosen list_text tree _ _ _ _ (Text tab ∷ []) old new rows h.declares.statements.lists shown in
     let passing : filter (passes_where (list_query tree) (Text tab ∷ [])) all ≡ filter (has_name tab) all =
     filter_same (passes_where (list_query tree) (Text tab ∷ [])) (has_name tab) all (all_weaker IsRecordRow _ (list_passes tree tab) all records.each) in
     let same : IsPermutation (filter (has_name tab) all) s.chosen = subst (λ l. IsPermutation l s.chosen) passing s.same in

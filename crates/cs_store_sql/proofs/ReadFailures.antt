@@ -1,10 +1,10 @@
 -- Why a query on records fails: the disk failed, memory ran out, or its steps are limited.
-use Rattle.std.proofs.Common.{◌≡◌, ◌≢◌, inl, inr, ℕ, zero, suc, ◌+◌, ◌≤◌, ◌^◌, ◌==◌, nat_le, true, false, true≢false, append-nil, List, [], ◌∷◌, length, find, slice_get, Some, IsSome, Any, refl, sym, ap, subst, ◌∙◌, arith}
+use Rattle.std.proofs.Common.{◌≡◌, ◌≢◌, inl, inr, ℕ, zero, suc, ◌+◌, ◌≤◌, ◌^◌, ◌==◌, nat_le, pos, true, false, true≢false, append-nil, List, [], ◌∷◌, length, find, slice_get, Some, IsSome, Any, refl, sym, ap, subst, ◌∙◌, arith}
 use Rattle.std.proofs.Common.{IsTrue}
 use Rattle.std.specs.List.{AllByRecursion, position_from}
 use Rattle.std.proofs.lemmas.Bool.{cases_Bool, lt-leb, false_from_ne_true, eqb-true, eq-eqb}
 use Rattle.std.proofs.lemmas.List.Elements.{recursion_from_All}
-use Rattle.sqlite_value.specs.declared.value.Value.TheVariants.{Text, Blob}
+use Rattle.sqlite_value.specs.declared.value.Value.TheVariants.{Int, Text, Blob}
 use Rattle.sqlite_value.specs.declared.keys.Key.{Key}
 use Rattle.sqlite_value.specs.Order.{Row}
 use Rattle.sqlite_trees.specs.Tree.{Trees}
@@ -27,7 +27,7 @@ use Rattle.sqlite_disk.specs.Disk.{MoreFaults}
 use Rattle.sqlite_trees.specs.declared.error.StoreError.{StoreError}
 use Rattle.sqlite_trees.specs.declared.error.StoreError.TheVariants as store
 use Rattle.cs_store_sql.specs.Failing.{CannotRead, HasDiskFailed, IsHindered}
-use Rattle.cs_store_sql.specs.Statements.{find_query, list_query, scan_query, plain_query, alone, IsSelect}
+use Rattle.cs_store_sql.specs.Statements.{find_query, list_query, page_query, scan_query, limited_query, alone, IsSelect}
 use Rattle.cs_store_sql.proofs.QueryLemmas.{returns_nothing}
 use Rattle.cs_store_sql.proofs.QueryTexts.{understood_is, unlisted}
 use Rattle.cs_store_sql.proofs.StatementLemmas.{IsWhole, is_statement, by_disk}
@@ -37,9 +37,9 @@ use Rattle.cs_store_sql.proofs.StatementLemmas.{IsWhole, is_statement, by_disk}
 no_any : {X : Type 0} (xs : List X) → ¬ Any (λ _. ⊥) xs
 no_any xs h = h.4
 
-module _ (sql : List ℕ) (tree : ℕ) (terms project : List Term) (order : List (Term × Key)) (params : Row) (old new : State) (e : Error) where
+module _ (sql : List ℕ) (tree : ℕ) (terms project : List Term) (order : List (Term × Key)) (limit : Term) (params : Row) (old new : State) (e : Error) where
   abbrev q : Query
-  q = plain_query tree terms project order
+  q = limited_query tree terms project order limit
 
   -- it sums nothing up
   no_fold : (db : Trees) → ¬ ProgramOverflows db params [] [] q
@@ -106,6 +106,9 @@ module _ (schema : Schema) (declares : DeclaresRecords schema) where
 
   pub list_accepted : (tab : List ℕ) → accepts schema (list_query tree) (Text tab ∷ []) ≡ true
   list_accepted tab = rw (is_stored, table_found) refl
+
+  pub page_accepted : (tab key : List ℕ) (most : ℕ) → accepts schema (page_query tree) (Text tab ∷ Blob key ∷ Int (pos most) ∷ []) ≡ true
+  page_accepted tab key most = rw (is_stored, table_found) refl
 
   pub scan_accepted : accepts schema (scan_query tree) [] ≡ true
   scan_accepted = rw (is_stored, table_found) refl

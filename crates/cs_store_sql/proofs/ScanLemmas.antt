@@ -14,7 +14,7 @@ use Rattle.sqlite.specs.Given.{Returns, HasGiven, HasBegun, Advances, FailsToAdv
 use Rattle.sqlite.proofs.Callers.{unchanged_then, given_begin}
 use Rattle.cs_store_sql.specs.Records.{RecordData, record_of, record_rows, records_tree, DeclaresRecords, HasNumberAbove, Pass, Rests, KeepsCrash, ShowsOnly}
 use Rattle.cs_store_sql.specs.Failing.{CannotRead}
-use Rattle.cs_store_sql.specs.Statements.{scan_text, up}
+use Rattle.cs_store_sql.specs.Statements.{scan_text, up, no_limit}
 use Rattle.cs_store_sql.proofs.ReadFailures.{query_fails, scan_accepted, read_from}
 use Rattle.sqlite_sql.specs.Term.{col}
 use Rattle.sqlite.specs.declared.error.Error.TheVariants.{SqliteFailure}
@@ -43,7 +43,7 @@ rests_then a b c same (inr back) = inr (record {
 -- where the table is declared, a scan fails only as a read does
 pub scan_fails : (old new : State) (e : Error) → DeclaresRecords old.now.schema → e ≢ SqliteFailure OutOfMemory → FailsToQuery scan_text [] old new e → CannotRead old new e
 scan_fails old new e has other fails =
-    query_fails scan_text (records_tree old.now.schema) [] (col 1 0 ∷ col 1 1 ∷ col 1 2 ∷ col 1 3 ∷ []) ((col 1 0, up) ∷ []) [] old new e scan_is_query
+    query_fails scan_text (records_tree old.now.schema) [] (col 1 0 ∷ col 1 1 ∷ col 1 2 ∷ col 1 3 ∷ []) ((col 1 0, up) ∷ []) no_limit [] old new e scan_is_query
     (λ live. (has.statements.scans, scan_accepted old.now.schema has)) other fails
 
 -- ---- the numbers of rows rise, so that there are only so many

@@ -170,7 +170,7 @@ module _ (old new : State) (rows : List Row) (has : DeclaresRecords old.now.sche
 
   -- the query shows each row of the table, with its number
   all_shown : ShowsChosen (scan_query tree) (record_rows old.now) [] rows
-  all_shown = shows_chosen scan_text tree _ _ _ [] old new rows has.statements.scans shown
+  all_shown = shows_chosen scan_text tree _ _ _ _ [] old new rows has.statements.scans shown
 
   all_chosen : IsPermutation (record_rows old.now) all_shown.chosen
   all_chosen = subst (λ l. IsPermutation l all_shown.chosen) (filter_all (passes_where (scan_query tree) []) (record_rows old.now) (all_of _ (λ row. refl) (record_rows old.now))) all_shown.same

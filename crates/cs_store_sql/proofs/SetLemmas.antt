@@ -175,7 +175,7 @@ module _ (limit : Option ℕ) (keys : Keys) (db : Database) (holds : HoldsRecord
       let put = went asked.2 in
       let shows : ShowsChosen (update_query tree) rows (update_params n there) asked.0 =
       subst (λ l. ShowsChosen (update_query tree) l (update_params n there) asked.0) (overlay_none db.trees tree)
-      (answer_chosen tree _ _ _ (overlay db.trees []) (update_params n there) asked.0 (asked.1.answer Null)) in
+      (answer_chosen tree _ _ _ _ (overlay db.trees []) (update_params n there) asked.0 (asked.1.answer Null)) in
       let gone = ids_of asked.0 in
       let edit = edit_of db.trees table gone Given 1 asked.0 in
       let left = without_all rows gone in

@@ -1,10 +1,10 @@
 -- Records in one SQL table: a record has the name of a table, a key and a value, and no two records have both the name
 -- and the key.
-use Rattle.std.specs.Prelude.{bytes_eq, ◌⊎◌, ◌≡◌, ◌≢◌, ◌<◌, ◌≤◌, ◌^◌, ◌<ℤ◌, ℕ, ℤ, Bool, true, false, ◌&&◌, if◌then◌else◌, List, [], ◌∷◌, codes}
+use Rattle.std.specs.Prelude.{bytes_eq, ◌⊎◌, ◌≡◌, ◌≢◌, ◌<◌, ◌≤◌, ◌^◌, ◌<ℤ◌, ℕ, ℤ, Bool, true, false, ◌&&◌, if◌then◌else◌, List, [], ◌∷◌, codes, take}
 use Rattle.std.specs.Prelude.{Option, Some, None, option_map, option_and_then, unwrap_or, slice_get, Result, Ok, Err, ⊤, IsTrue, IsSome, IfSome, All, AllPairs}
 use Rattle.std.specs.List.{AllByRecursion, find}
 use Rattle.std.specs.Cmp.Lexicographic.{slice_cmp}
-use Rattle.std.specs.Ordering.{nat_cmp}
+use Rattle.std.specs.Ordering.{nat_cmp, is_gt}
 use Rattle.std.specs.FinMap.{is_sorted, find as find_entry}
 use Rattle.sqlite.specs.State.{State, Shows, IsUnchanged, IsRolledBack, Survives}
 use Rattle.sqlite_value.specs.declared.value.Value.{Value}
@@ -193,6 +193,19 @@ pub record Pass (Passes : RecordData → Type 0) (rows : List Row) : Type 0 wher
 pub record ListsTable (records : Records) (tab : List ℕ) (listed : List (List ℕ × List ℕ)) : Type 0 where
   pub rising : IsTrue (is_sorted (slice_cmp nat_cmp) listed)
   pub each : (key : List ℕ) → find_entry (slice_cmp nat_cmp) key listed ≡ records tab key
+
+-- the key is greater than that one
+abbrev pub is_above : List ℕ → List ℕ → Bool
+is_above last key = is_gt (slice_cmp nat_cmp key last)
+
+-- the keys and values under a name whose keys are greater than that one, each once and by key
+pub record ListsAfter (records : Records) (tab : List ℕ) (after : List ℕ) (listed : List (List ℕ × List ℕ)) : Type 0 where
+  pub rising : IsTrue (is_sorted (slice_cmp nat_cmp) listed)
+  pub each : (key : List ℕ) → find_entry (slice_cmp nat_cmp) key listed ≡ (if is_above after key then records tab key else None)
+
+-- the first of them, at most so many
+abbrev pub ListsPage : Records → List ℕ → List ℕ → ℕ → List (List ℕ × List ℕ) → Type 0
+ListsPage records tab after limit listed = (all : List (List ℕ × List ℕ)) × ListsAfter records tab after all × (listed ≡ take limit all)
 
 -- ---- what statements do
 

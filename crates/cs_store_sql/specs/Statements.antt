@@ -1,11 +1,11 @@
 -- The texts of SQL that read and write records, and what they are on a table of records.
-use Rattle.std.specs.Prelude.{◌≡◌, ◌≤◌, ℕ, pos, negsuc, Bool, true, false, List, [], ◌∷◌, length, map, codes, Some, None, Ok}
+use Rattle.std.specs.Prelude.{◌≡◌, ◌≤◌, ℕ, pos, negsuc, Bool, true, false, List, [], ◌∷◌, length, map, codes, Option, Some, None, Ok}
 use Rattle.sqlite_value.specs.declared.value.Value.TheVariants as value
 use Rattle.sqlite_value.specs.declared.keys.Collation.TheVariants.{Binary}
 use Rattle.sqlite_value.specs.declared.keys.Key.{Key}
 use Rattle.sqlite_value.specs.Keys.{ascending}
 use Rattle.sqlite_sql.specs.declared.ops.BinaryOp.TheVariants.{Compare}
-use Rattle.sqlite_sql.specs.declared.ops.CompareOp.TheVariants.{Eq}
+use Rattle.sqlite_sql.specs.declared.ops.CompareOp.TheVariants.{Eq, Gt}
 use Rattle.sqlite_sql.specs.Term.{Term, lit, col, op2}
 use Rattle.sqlite_sql.specs.Query.{Query, inner, end}
 use Rattle.sqlite_schema.specs.declared.schema.Schema.{Schema}
@@ -32,6 +32,10 @@ find_text = codes "SELECT rowb FROM rec WHERE tab = ?1 AND keyb = ?2"
 abbrev pub list_text : List ℕ
 list_text = codes "SELECT keyb, rowb FROM rec WHERE tab = ?1 ORDER BY keyb"
 
+-- the first records under a name whose keys are greater than a key
+abbrev pub page_text : List ℕ
+page_text = codes "SELECT keyb, rowb FROM rec WHERE tab = ?1 AND keyb > ?2 ORDER BY keyb LIMIT ?3"
+
 -- the number of each row and its record, by these numbers
 abbrev pub scan_text : List ℕ
 scan_text = codes "SELECT rowid, tab, keyb, rowb FROM rec ORDER BY rowid"
@@ -55,9 +59,9 @@ create_text = codes "CREATE TABLE IF NOT EXISTS rec(tab TEXT NOT NULL, keyb BLOB
 abbrev pub up : Key
 up = ascending Binary
 
--- rows of the table with this tree that pass, shown and in an order
-abbrev pub plain_query : ℕ → List Term → List Term → List (Term × Key) → Query
-plain_query tree filter project order = record {
+-- rows of the table with this tree that pass, shown and in an order, and at most so many
+abbrev pub limited_query : ℕ → List Term → List Term → List (Term × Key) → Term → Query
+limited_query tree filter project order limit = record {
   from = inner tree end;
   filter = filter;
   group = None;
@@ -65,13 +69,23 @@ plain_query tree filter project order = record {
   distinct = false;
   collations = [];
   order = order;
-  limit = lit (value.Int (negsuc 0));
+  limit = limit;
   offset = lit (value.Int (pos 0));
 }
 
--- SQL's =, under the collation BINARY
+-- all of them
+abbrev pub no_limit : Term
+no_limit = lit (value.Int (negsuc 0))
+
+abbrev pub plain_query : ℕ → List Term → List Term → List (Term × Key) → Query
+plain_query tree filter project order = limited_query tree filter project order no_limit
+
+-- SQL's = and >, under the collation BINARY
 abbrev pub equals : Term → Term → Term
 equals a b = op2 (Compare Eq Binary) a b
+
+abbrev pub above : Term → Term → Term
+above a b = op2 (Compare Gt Binary) a b
 
 -- the terms that are compared with those of a compiled statement: a column of the row is in slot 1, a parameter in slot
 -- 0
@@ -79,13 +93,20 @@ abbrev pub expected_term : Expected → Term
 expected_term expected.Null = lit value.Null
 expected_term (expected.Column slot at) = col slot at
 expected_term (expected.Equal at param) = equals (col 1 at) (col 0 param)
+expected_term (expected.Above at param) = above (col 1 at) (col 0 param)
 
 -- by a column of the row
 abbrev pub by_column : ℕ → Term × Key
 by_column at = (col 1 at, up)
 
+-- as many rows as a parameter says
+abbrev pub expected_limit : Option ℕ → Term
+expected_limit None = no_limit
+expected_limit (Some param) = col 0 param
+
 abbrev pub expected_query : ℕ → Shape → Query
-expected_query tree shape = plain_query tree (map expected_term shape.filter.now) (map expected_term shape.project.now) (map by_column shape.order.now)
+expected_query tree shape =
+    limited_query tree (map expected_term shape.filter.now) (map expected_term shape.project.now) (map by_column shape.order.now) (expected_limit shape.limit)
 
 -- ---- what the texts are
 
@@ -98,6 +119,11 @@ find_query tree = plain_query tree at_key (col 1 3 ∷ []) []
 
 abbrev pub list_query : ℕ → Query
 list_query tree = plain_query tree (equals (col 1 1) (col 0 0) ∷ []) (col 1 2 ∷ col 1 3 ∷ []) ((col 1 2, up) ∷ [])
+
+-- the key and the number of rows are the second parameter and the third
+abbrev pub page_query : ℕ → Query
+page_query tree =
+    limited_query tree (equals (col 1 1) (col 0 0) ∷ above (col 1 2) (col 0 1) ∷ []) (col 1 2 ∷ col 1 3 ∷ []) ((col 1 2, up) ∷ []) (col 0 2)
 
 abbrev pub scan_query : ℕ → Query
 scan_query tree = plain_query tree [] (col 1 0 ∷ col 1 1 ∷ col 1 2 ∷ col 1 3 ∷ []) ((col 1 0, up) ∷ [])

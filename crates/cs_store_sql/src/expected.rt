@@ -4,7 +4,7 @@ ghost use Rattle.sqlite_value.specs.declared.value.Value.TheVariants.{Int as Num
 ghost use Rattle.sqlite_sql.specs.Term.{lit, col};
 ghost use Rattle.sqlite_sql.specs.Query.{inner, end};
 ghost use Rattle.sqlite_sql.specs.Syntax.{term_at, term_of, terms_of, order_of, join_at, query_of};
-ghost use Rattle.cs_store_sql.specs.Statements.{equals, expected_term, by_column, expected_query};
+ghost use Rattle.cs_store_sql.specs.Statements.{equals, above, expected_term, expected_limit, by_column, expected_query};
 
 use sqlite_sql::expr::{Node, open};
 use sqlite_sql::ops::{BinaryOp, CompareOp};
@@ -20,6 +20,8 @@ pub(crate) enum Expected {
     Column(usize, usize),
     /// Whether this column of the row equals this parameter.
     Equal(usize, usize),
+    /// Whether this column of the row is greater than this parameter.
+    Above(usize, usize),
 }
 
 /// What a query on one table tests, shows and sorts by.
@@ -29,6 +31,8 @@ pub(crate) struct Shape<'a> {
     pub project: &'a [Expected],
     /// Columns, by which the rows rise.
     pub order: &'a [usize],
+    /// A parameter, if there is one: at most so many rows are shown.
+    pub limit: Option<usize>,
 }
 
 /// Whether the node at this index is this column.
@@ -49,6 +53,19 @@ fn is_equality(nodes: &[Node<'_>], depth: usize, at: usize, column: usize, param
     let (node, below) = open(nodes, depth, at);
     match node {
         Node::Binary(BinaryOp::Compare(CompareOp::Eq, Collation::Binary), a, b) => {
+            is_column(nodes, below, a, 1, column) && is_column(nodes, below, b, 0, param)
+        }
+        _ => false,
+    }
+}
+
+/// Whether the node at this index tests whether this column of the row is greater than this parameter.
+fn is_above(nodes: &[Node<'_>], depth: usize, at: usize, column: usize, param: usize) -> bool
+    ensures { IsTrue result ↔ (term_at nodes.now depth at ≡ above (col 1 column) (col 0 param)) }
+{
+    let (node, below) = open(nodes, depth, at);
+    match node {
+        Node::Binary(BinaryOp::Compare(CompareOp::Gt, Collation::Binary), a, b) => {
             is_column(nodes, below, a, 1, column) && is_column(nodes, below, b, 0, param)
         }
         _ => false,
@@ -81,6 +98,7 @@ fn is_expected(nodes: &[Node<'_>], at: usize, expected: Expected) -> bool
         Expected::Null => is_null(nodes, at),
         Expected::Column(slot, column) => is_column(nodes, nodes.len(), at, slot, column),
         Expected::Equal(column, param) => is_equality(nodes, nodes.len(), at, column, param),
+        Expected::Above(column, param) => is_above(nodes, nodes.len(), at, column, param),
     }
 }
 
@@ -122,6 +140,16 @@ fn are_rising(nodes: &[Node<'_>], keys: &[SortKey], columns: &[usize]) -> bool
     true
 }
 
+/// Whether the node at this index is this parameter, and the number that stands for no limit where there is none.
+fn is_limit(nodes: &[Node<'_>], at: usize, limit: Option<usize>) -> bool
+    ensures { IsTrue result ↔ (term_of nodes.now at ≡ expected_limit limit) }
+{
+    match limit {
+        Some(param) => is_column(nodes, nodes.len(), at, 0, param),
+        None => is_number(nodes, at, -1),
+    }
+}
+
 /// Whether no step follows from this one on, where so many are read.
 fn is_end(nodes: &[Node<'_>], steps: &[Step<'_>], depth: usize, at: usize) -> bool
     ensures { IsTrue result ↔ (join_at nodes.now steps.now depth at ≡ end) }
@@ -152,6 +180,6 @@ pub(crate) fn is_query(select: &Select<'_>, tree: u32, shape: &Shape<'_>) -> boo
         && !select.distinct
         && select.collations.is_empty()
         && are_rising(select.nodes, select.order, shape.order)
-        && is_number(select.nodes, select.limit, -1)
+        && is_limit(select.nodes, select.limit, shape.limit)
         && is_number(select.nodes, select.offset, 0)
 }

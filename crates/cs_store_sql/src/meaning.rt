@@ -4,9 +4,9 @@
 //! So it reads and writes the rows of that table, whatever else the database declares.
 ghost use Rattle.std.specs.Prelude.{◌≡◌, ◌↔◌, [], true, false, IsTrue, IfOk, MatchOption};
 ghost use Rattle.cs_store_sql.specs.Meaning.{AreStatements, AreWrites, IsMeant};
-ghost use Rattle.cs_store_sql.specs.Statements.{alone, expected_query, find_query, list_query, scan_query};
+ghost use Rattle.cs_store_sql.specs.Statements.{alone, expected_query, find_query, list_query, page_query, scan_query};
 ghost use Rattle.cs_store_sql.specs.Statements.{put_command, remove_command, source, source_terms, clause};
-ghost use Rattle.cs_store_sql.specs.Statements.{find_text, list_text, scan_text};
+ghost use Rattle.cs_store_sql.specs.Statements.{find_text, list_text, page_text, scan_text};
 ghost use Rattle.cs_store_sql.specs.Statements.{IsPlainStatement, IsStatement, IsSelectOf, IsSelect, IsCreation, Creates};
 
 use crate::expected::{Expected, Shape, are_expected, is_query};
@@ -128,6 +128,7 @@ fn is_clause(alloc: Global, upsert: &Upsert, tree: u32) -> Result<bool, AllocErr
             Expected::Column(0, 2),
         ],
         order: &[],
+        limit: None,
     };
     Ok(target.as_slice() == [1, 2].as_slice() && is_program(alloc, program, tree, &shape)?)
 }
@@ -153,6 +154,7 @@ fn is_remove(alloc: Global, command: &Command, index: usize, tree: u32) -> Resul
         filter: &[Expected::Equal(1, 0), Expected::Equal(2, 1)],
         project: &[Expected::Column(1, 0)],
         order: &[],
+        limit: None,
     };
     match command {
         Command::Delete(at, program) => {
@@ -218,6 +220,7 @@ fn finds(alloc: Global, schema: &Schema, tree: u32) -> Result<bool, AllocError>
         filter: &[Expected::Equal(1, 0), Expected::Equal(2, 1)],
         project: &[Expected::Column(1, 3)],
         order: &[],
+        limit: None,
     };
     is_statement(
         alloc,
@@ -238,12 +241,34 @@ fn lists(alloc: Global, schema: &Schema, tree: u32) -> Result<bool, AllocError>
         filter: &[Expected::Equal(1, 0)],
         project: &[Expected::Column(1, 2), Expected::Column(1, 3)],
         order: &[2],
+        limit: None,
     };
     is_statement(
         alloc,
         schema,
         texts::LIST,
         1,
+        0,
+        tree,
+        Meant::Select(&shape),
+    )
+}
+
+/// Whether the text that lists the first records under a name after a key does so.
+fn pages(alloc: Global, schema: &Schema, tree: u32) -> Result<bool, AllocError>
+    ensures { IfOk result (λ yes. IsTrue yes ↔ IsSelect schema.now page_text 3 (page_query tree)) }
+{
+    let shape = Shape {
+        filter: &[Expected::Equal(1, 0), Expected::Above(2, 1)],
+        project: &[Expected::Column(1, 2), Expected::Column(1, 3)],
+        order: &[2],
+        limit: Some(2),
+    };
+    is_statement(
+        alloc,
+        schema,
+        texts::PAGE,
+        3,
         0,
         tree,
         Meant::Select(&shape),
@@ -263,6 +288,7 @@ fn scans(alloc: Global, schema: &Schema, tree: u32) -> Result<bool, AllocError>
             Expected::Column(1, 3),
         ],
         order: &[0],
+        limit: None,
     };
     is_statement(
         alloc,
@@ -299,6 +325,7 @@ pub(crate) fn are_statements(
     Ok(
         finds(alloc, schema, tree)?
             && lists(alloc, schema, tree)?
+            && pages(alloc, schema, tree)?
             && scans(alloc, schema, tree)?
             && are_writes(alloc, schema, index, tree)?,
     )

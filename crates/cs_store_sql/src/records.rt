@@ -1,11 +1,11 @@
 //! The table of records, one statement at a time: a record has the name of a table, a key and a
 //! value. A call that is refused leaves the database as it was, or takes it back to its last commit.
-ghost use Rattle.std.specs.Prelude.{◌≡◌, [], Some, None, option_map, map, IsTrue, IfOk, IfErr, OnOk, OnErr};
+ghost use Rattle.std.specs.Prelude.{◌≡◌, ◌<◌, ◌^◌, [], Some, None, option_map, map, IsTrue, IfOk, IfErr, OnOk, OnErr};
 ghost use Rattle.sqlite.specs.State.{FailsToQuery, HasCleanDisk, IsUnchanged, KeepsCommit, Shown, Survives};
 ghost use Rattle.sqlite.specs.Held.{state};
 ghost use Rattle.sqlite.specs.Values.{bound};
 ghost use Rattle.cs_store_sql.specs.Failing.{CannotCreate, CannotMake, CannotRead, EndsAs, FailsAt, IsFailure, puts, removes};
-ghost use Rattle.cs_store_sql.specs.Records.{DeclaresRecords, HoldsRecords, Sets, ListsTable};
+ghost use Rattle.cs_store_sql.specs.Records.{DeclaresRecords, HoldsRecords, Sets, ListsTable, ListsPage};
 ghost use Rattle.cs_store_sql.specs.Records.{records_in, Makes, Rests, GoesOn, KeepsCrash};
 ghost use Rattle.cs_store_sql.specs.Records.{IsQuery, shown_keyed};
 ghost use Rattle.cs_store_sql.specs.Records.{LacksRecords, KeepsOthers, record_rows};
@@ -189,6 +189,31 @@ pub fn list_records<S: Alter>(
     ensures keeps_crash { KeepsCrash (state S.Store conn.old) (state S.Store conn.new) }
 {
     let rows = query_rows(conn, texts::LIST, params![tab])?;
+    Ok(keyed_rows(alloc, rows.as_slice())?)
+}
+
+/// The keys and values under a table's name, by key: those whose keys are greater than that one, at most so many.
+pub fn list_page<S: Alter>(
+    conn: &mut Connection<S>,
+    alloc: Global,
+    tab: &str,
+    after: &[u8],
+    limit: u64,
+) -> Result<Vec<Keyed>, RecordsError>
+    requires { limit < 2 ^ 63 }
+    ensures listed { HasCleanDisk (state S.Store conn.new) → HoldsRecords (state S.Store conn.old).now
+        → IfOk result (λ listed. ListsPage (records_in (state S.Store conn.old).now) tab.now
+        after.now limit listed.items) }
+    ensures reads { HasCleanDisk (state S.Store conn.new)
+        → OnOk result (IsUnchanged (state S.Store conn.old) (state S.Store conn.new)) }
+    ensures rests { HasCleanDisk (state S.Store conn.new)
+        → OnErr result (Rests (state S.Store conn.old) (state S.Store conn.new)) }
+    ensures failed { HasCleanDisk (state S.Store conn.new)
+        → (IsTrue (state S.Store conn.old).is_open → DeclaresRecords (state S.Store conn.old).now.schema)
+        → IfErr result (IsFailure (CannotRead (state S.Store conn.old) (state S.Store conn.new))) }
+    ensures keeps_crash { KeepsCrash (state S.Store conn.old) (state S.Store conn.new) }
+{
+    let rows = query_rows(conn, texts::PAGE, params![tab, after, limit as i64])?;
     Ok(keyed_rows(alloc, rows.as_slice())?)
 }
 

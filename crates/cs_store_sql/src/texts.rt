@@ -4,6 +4,9 @@ pub(crate) const FIND: &str = "SELECT rowb FROM rec WHERE tab = ?1 AND keyb = ?2
 
 pub(crate) const LIST: &str = "SELECT keyb, rowb FROM rec WHERE tab = ?1 ORDER BY keyb";
 
+pub(crate) const PAGE: &str =
+    "SELECT keyb, rowb FROM rec WHERE tab = ?1 AND keyb > ?2 ORDER BY keyb LIMIT ?3";
+
 /// All records, by the numbers of their rows.
 pub(crate) const SCAN: &str = "SELECT rowid, tab, keyb, rowb FROM rec ORDER BY rowid";
 

@@ -1,5 +1,6 @@
 pub mod FailureLemmas
 pub mod KnownLemmas
+pub mod PagedLists
 pub mod ReadLemmas
 pub mod StoreLemmas
 pub mod StoredLists

@@ -31,45 +31,45 @@ use Rattle.cs_rows.proofs.MemoryLemmas.{rows_at_found}
 use Rattle.cs_store_encoding.proofs.StoredLemmas.{row_stored}
 
 -- entries by lists of bytes, and whether their keys rise
-abbrev Entries : Type 0 → Type 0
+abbrev pub Entries : Type 0 → Type 0
 Entries X = List (List ℕ × X)
 
-abbrev sorted : {X : Type 0} → Entries X → Type 0
+abbrev pub sorted : {X : Type 0} → Entries X → Type 0
 sorted es = T (is_sorted (slice_cmp nat_cmp) es)
 
 -- entries that are sorted and answer alike are one list
-same_lists : {X : Type 0} (es fs : Entries X) → sorted es → sorted fs → ((q : List ℕ) → find (slice_cmp nat_cmp) q es ≡ find (slice_cmp nat_cmp) q fs) → es ≡ fs
+pub same_lists : {X : Type 0} (es fs : Entries X) → sorted es → sorted fs → ((q : List ℕ) → find (slice_cmp nat_cmp) q es ≡ find (slice_cmp nat_cmp) q fs) → es ≡ fs
 same_lists = same_entries (slice_cmp nat_cmp) nat_list_cmp_total (slice_cmp-IsAntisymmetric nat_cmp-IsAntisymmetric)
 
 -- a test that passes, in both forms
-true_of : (b : Bool) → T b → b ≡ true
+pub true_of : (b : Bool) → T b → b ≡ true
 true_of true h = refl
 true_of false h = absurd h
 
-of_true : (b : Bool) → b ≡ true → T b
+pub of_true : (b : Bool) → b ≡ true → T b
 of_true b e = subst T (sym e) tt
 
 -- ---- the entries of a map
 
 -- what holds of what is found at each key holds of each entry
-each_entry : {X : Type 0} (P : List ℕ → X → Type 0) (es : Entries X) → sorted es → ((q : List ℕ) (x : X) → find (slice_cmp nat_cmp) q es ≡ Some x → P q x) → AllByRecursion (λ e. P e.0 e.1) es
+pub each_entry : {X : Type 0} (P : List ℕ → X → Type 0) (es : Entries X) → sorted es → ((q : List ℕ) (x : X) → find (slice_cmp nat_cmp) q es ≡ Some x → P q x) → AllByRecursion (λ e. P e.0 e.1) es
 each_entry P es rising each = all_from (λ e. P e.0 e.1) es (λ e has. each e.0 e.1 (find_own es e (true_of _ rising) has))
 
 -- ---- entries whose values are spelled
 
 module _ {X Y : Type 0} (f : X → Y) where
-  abbrev each_value : List ℕ × X → List ℕ × Y
+  abbrev pub each_value : List ℕ × X → List ℕ × Y
   each_value e = (e.0, f e.1)
 
   below_values : (k : List ℕ) (es : Entries X) → below_all (slice_cmp nat_cmp) k (map each_value es) ≡ below_all (slice_cmp nat_cmp) k es
   below_values k [] = refl
   below_values k (e ∷ es) = ap (λ b. is_lt (slice_cmp nat_cmp k e.0) && b) (below_values k es)
 
-  sorted_values : (es : Entries X) → is_sorted (slice_cmp nat_cmp) (map each_value es) ≡ is_sorted (slice_cmp nat_cmp) es
+  pub sorted_values : (es : Entries X) → is_sorted (slice_cmp nat_cmp) (map each_value es) ≡ is_sorted (slice_cmp nat_cmp) es
   sorted_values [] = refl
   sorted_values (e ∷ es) = ap (λ b. b && is_sorted (slice_cmp nat_cmp) (map each_value es)) (below_values e.0 es) ∙ ap (λ b. below_all (slice_cmp nat_cmp) e.0 es && b) (sorted_values es)
 
-  find_values : (q : List ℕ) (es : Entries X) → find (slice_cmp nat_cmp) q (map each_value es) ≡ option_map f (find (slice_cmp nat_cmp) q es)
+  pub find_values : (q : List ℕ) (es : Entries X) → find (slice_cmp nat_cmp) q (map each_value es) ≡ option_map f (find (slice_cmp nat_cmp) q es)
   find_values q [] = refl
   find_values q (e ∷ es) =
       elim (eq_by_cmp (slice_cmp nat_cmp) q e.0) as (λ b. cond b (Some (f e.1)) (find (slice_cmp nat_cmp) q (map each_value es)) ≡ option_map f (cond b (Some e.1) (find (slice_cmp nat_cmp) q es))) [ true ↦ refl | false ↦ find_values q es ]

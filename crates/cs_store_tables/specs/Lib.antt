@@ -1,3 +1,4 @@
+pub mod Pages
 pub mod Refusals
 pub mod Store
 pub mod Crash

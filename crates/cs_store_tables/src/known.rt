@@ -1,7 +1,7 @@
 //! What is read and written through a store. The table that was looked up last is known: inside a transaction, where
 //! nobody else writes, its schema is not read again. So is the key that was looked up last, where no row has it: a row
 //! that is put there is new, and none is looked for to be replaced.
-ghost use Rattle.std.specs.Prelude.{◌≡◌, ◌⊎◌, true, IsTrue, IfOk, IfErr, OnOk, IfSome, None, Some, option_map};
+ghost use Rattle.std.specs.Prelude.{◌≡◌, ◌⊎◌, ◌<◌, ◌^◌, true, IsTrue, IfOk, IfErr, OnOk, IfSome, None, Some, option_map};
 ghost use Rattle.std.specs.FinMap as map;
 ghost use Rattle.cs_value.specs.Table.{IsName};
 ghost use Rattle.cs_value.specs.State.{schema_at, row_at, rows_at, with_row, without_row};
@@ -9,6 +9,7 @@ ghost use Rattle.cs_rows.specs.declared.fault.StoreError.TheVariants.{TableExist
 ghost use Rattle.cs_rows.specs.Faults.{IsCaused, IsResource, IsReadRefusal, is_answered};
 ghost use Rattle.cs_rows.specs.Rows.{IsDeclared, Fits, puts_row, removes_row};
 ghost use Rattle.cs_store_tables.specs.Failing.{BatchFails, IsDeclarationOf, LeadsOn, PutFails, ReadFails, RemoveFails, Writes};
+ghost use Rattle.cs_store_tables.specs.Pages.{page_in};
 ghost use Rattle.cs_store_tables.specs.Store.{AddsTable, IsFreeKey, IsSound, KeepsStore, Knows, RefusesShut};
 ghost use Rattle.cs_store_tables.specs.Store.{tables_in, without_free_key};
 ghost use Rattle.sqlite.specs.State.{HasCleanDisk, IsUnchanged};
@@ -155,6 +156,52 @@ pub fn list_rows<S: Alter>(
     look_up(conn, known, alloc, name)?;
     match known {
         Some(table) => match tables::list_rows(conn, alloc, name, &table.schema) {
+            Ok(listed) => Ok(listed),
+            Err(error) => {
+                *known = None;
+                Err(error)
+            }
+        },
+        None => Ok(Vec::new(alloc)),
+    }
+}
+
+/// A page of the rows of a table, and none where no table has the name: the first rows by the bytes of their keys, or
+/// the first after a key. A table is known then, if one has the name.
+pub fn list_page<S: Alter>(
+    conn: &mut Connection<S>,
+    known: &mut Option<KnownTable>,
+    alloc: Global,
+    name: &str,
+    after: Option<&Key>,
+    limit: u64,
+) -> Result<Vec<Row>, StoreError>
+    requires sound { IsSound (state S.Store conn.old) }
+    requires knows { Knows (state S.Store conn.old) known.old }
+    requires limit { limit < 2 ^ 63 }
+    ensures listed { HasCleanDisk (state S.Store conn.new)
+        → IfOk result (λ rows. rows.items ≡ page_in (rows_at (tables_in (state S.Store conn.old).now) name.now)
+        (option_map (λ k. k.now) after.entry) limit) }
+    ensures tells { HasCleanDisk (state S.Store conn.new) → OnOk result (option_map (λ t. t.1) known.new
+        ≡ schema_at (tables_in (state S.Store conn.old).now) name.now) }
+    ensures same { HasCleanDisk (state S.Store conn.new) → OnOk result ((state S.Store conn.new).now
+        ≡ (state S.Store conn.old).now) }
+    ensures refused { HasCleanDisk (state S.Store conn.new) → IfErr result IsResource }
+    ensures shut { HasCleanDisk (state S.Store conn.new) → RefusesShut (state S.Store conn.old) IsResource result }
+    ensures caused { HasCleanDisk (state S.Store conn.new)
+        → IfErr result (IsCaused (ReadFails (state S.Store conn.old) (state S.Store conn.new))) }
+    ensures named { IfErr result IsReadRefusal }
+    ensures knows { Knows (state S.Store conn.new) known.new }
+    ensures leads { HasCleanDisk (state S.Store conn.new)
+        → OnOk result (LeadsOn (λ _ _. ⊥) (state S.Store conn.old) (state S.Store conn.new)) }
+    ensures reads { HasCleanDisk (state S.Store conn.new)
+        → OnOk result (IsUnchanged (state S.Store conn.old) (state S.Store conn.new)) }
+    ensures rests { HasCleanDisk (state S.Store conn.new) → Rests (state S.Store conn.old) (state S.Store conn.new) }
+    ensures kept { KeepsStore (state S.Store conn.old) (state S.Store conn.new) }
+{
+    look_up(conn, known, alloc, name)?;
+    match known {
+        Some(table) => match tables::list_page(conn, alloc, name, &table.schema, after, limit) {
             Ok(listed) => Ok(listed),
             Err(error) => {
                 *known = None;

@@ -1,7 +1,7 @@
 //! The tables of a store, one call at a time, by its records.
 ghost use Rattle.std.specs.FinMap as map;
 ghost use Rattle.cs_rows.specs.declared.fault.StoreError.TheVariants.{DamagedStore as Damaged};
-ghost use Rattle.std.specs.Prelude.{◌≡◌, ◌⊎◌, map as map_list, IsTrue, OnOk, IfOk};
+ghost use Rattle.std.specs.Prelude.{◌≡◌, ◌⊎◌, ◌<◌, ◌^◌, unwrap_or, map as map_list, IsTrue, OnOk, IfOk};
 ghost use Rattle.std.specs.Prelude.{IfErr, IfSome, Option, Some, None, ℕ, List, [], ◌∷◌, false, option_map, string_bytes};
 ghost use Rattle.std.specs.List.{AllByRecursion};
 ghost use Rattle.cs_value.specs.Table.{IsName};
@@ -17,6 +17,7 @@ ghost use Rattle.cs_rows.specs.Faults.{IsCaused, IsResource, IsReadRefusal};
 ghost use Rattle.cs_store_sql.specs.Failing.{puts, removes};
 ghost use Rattle.cs_store_tables.specs.Failing.{IsDeclarationOf, LeadsOn, ReadFails, WriteFails};
 ghost use Rattle.cs_rows.specs.Rows.{IsDeclared, Fits, IsRowIn};
+ghost use Rattle.cs_store_tables.specs.Pages.{page_in};
 ghost use Rattle.cs_store_tables.specs.Store.{IsSound, KeepsStore, Recovers, RecoversList, RefusesShut};
 ghost use Rattle.cs_store_tables.specs.Store.{AddsTable, AreNamed, AreStored, HoldsState, tables_in};
 
@@ -150,6 +151,48 @@ pub fn list_rows<S: Alter>(
     ensures kept { KeepsStore (state S.Store conn.old) (state S.Store conn.new) }
 {
     match list_records(conn, alloc, name) {
+        Ok(listed) => rows_in(alloc, schema, &listed),
+        Err(error) => Err(refused(error)),
+    }
+}
+
+/// The bytes of a key, and no bytes where there is none.
+fn bytes_of<'a>(key: Option<&'a Key>) -> &'a [u8]
+    ensures { result.now ≡ unwrap_or (option_map (λ k. k.now) key.entry) [] }
+{
+    match key {
+        Some(key) => key.bytes(),
+        None => &[],
+    }
+}
+
+/// The rows of a page of the table of this name, which has this schema.
+pub fn list_page<S: Alter>(
+    conn: &mut Connection<S>,
+    alloc: Global,
+    name: &str,
+    schema: &Schema,
+    after: Option<&Key>,
+    limit: u64,
+) -> Result<Vec<Row>, StoreError>
+    requires { limit < 2 ^ 63 }
+    ensures listed { IsSound (state S.Store conn.old) → HasCleanDisk (state S.Store conn.new)
+        → schema_at (tables_in (state S.Store conn.old).now) name.now ≡ Some schema.now
+        → RecoversList result (page_in (rows_at (tables_in (state S.Store conn.old).now) name.now)
+        (option_map (λ k. k.now) after.entry) limit) }
+    ensures same { HasCleanDisk (state S.Store conn.new) → OnOk result ((state S.Store conn.new).now
+        ≡ (state S.Store conn.old).now) }
+    ensures caused { IsSound (state S.Store conn.old) → HasCleanDisk (state S.Store conn.new)
+        → IfErr result (IsCaused (ReadFails (state S.Store conn.old) (state S.Store conn.new))) }
+    ensures named { IfErr result IsReadRefusal }
+    ensures leads { HasCleanDisk (state S.Store conn.new)
+        → OnOk result (LeadsOn (λ _ _. ⊥) (state S.Store conn.old) (state S.Store conn.new)) }
+    ensures reads { HasCleanDisk (state S.Store conn.new)
+        → OnOk result (IsUnchanged (state S.Store conn.old) (state S.Store conn.new)) }
+    ensures rests { HasCleanDisk (state S.Store conn.new) → Rests (state S.Store conn.old) (state S.Store conn.new) }
+    ensures kept { KeepsStore (state S.Store conn.old) (state S.Store conn.new) }
+{
+    match cs_store_sql::list_page(conn, alloc, name, bytes_of(after), limit) {
         Ok(listed) => rows_in(alloc, schema, &listed),
         Err(error) => Err(refused(error)),
     }

@@ -4,7 +4,7 @@ use Rattle.cs_store_sql.proofs.FoundRows.{finds, first_found, first_blob, none_f
 use Rattle.cs_store_sql.proofs.ReadFailures.{query_fails, find_accepted}
 use Rattle.cs_store_sql.proofs.FailureLemmas.{failure_so, blob_read}
 use Rattle.cs_store_sql.specs.Records.{records_tree}
-use Rattle.cs_store_sql.specs.Statements.{find_text, at_key}
+use Rattle.cs_store_sql.specs.Statements.{find_text, at_key, no_limit}
 use Rattle.sqlite_value.specs.declared.value.Value.TheVariants.{Text, Blob}
 use Rattle.sqlite_sql.specs.Term.{col}
 use Rattle.std.proofs.Common.{[], ◌∷◌, refl, arith}
@@ -31,7 +31,7 @@ returns-in_err-rows-clause-failed g c clean holds =
     let old = state g.S.Store c.args.conn.now in
     let fails = rw (c.in_err-rows.was, c.params-to_sql.ensures, c.params-to_sql-2.ensures) at (c.query_rows.ensures.failed clean) in
     failure_so c.from_residual.result _ _ c.in_err-rows.field-0.0 c.from_residual.ensures.1 fails
-    (λ e other so. query_fails find_text (records_tree old.now.schema) at_key (col 1 3 ∷ []) [] (Text c.args.tab.now ∷ Blob c.args.key.now ∷ []) old (state g.S.Store c.query_rows.new.conn) e find_is_query
+    (λ e other so. query_fails find_text (records_tree old.now.schema) at_key (col 1 3 ∷ []) [] no_limit (Text c.args.tab.now ∷ Blob c.args.key.now ∷ []) old (state g.S.Store c.query_rows.new.conn) e find_is_query
     (λ is. ((holds is).declares.statements.finds, find_accepted old.now.schema (holds is).declares c.args.tab.now c.args.key.now)) other so)
 
 pub returns-in_err-get-in-Some-clause-failed : goal.returns-in_err-get-in-Some-clause-failed

@@ -4,7 +4,7 @@ use Rattle.sqlite.specs.Held.{state}
 use Rattle.cs_store_sql.specs.Records.{ListsTable, shown_keyed, records_in}
 use Rattle.cs_store_sql.proofs.QueryTexts.{list_is_query}
 use Rattle.cs_store_sql.specs.Records.{records_tree}
-use Rattle.cs_store_sql.specs.Statements.{list_text, equals, up}
+use Rattle.cs_store_sql.specs.Statements.{list_text, equals, up, no_limit}
 use Rattle.sqlite_value.specs.declared.value.Value.TheVariants.{Text}
 use Rattle.sqlite_sql.specs.Term.{col}
 use Rattle.cs_store_sql.proofs.FailureLemmas.{failure_so}
@@ -26,5 +26,5 @@ returns-in_err-rows-clause-failed g c clean declares =
     let old = state g.S.Store c.args.conn.now in
     let fails = rw (c.in_err-rows.was, c.params-to_sql.ensures) at (c.query_rows.ensures.failed clean) in
     failure_so c.from_residual.result _ _ c.in_err-rows.field-0.0 c.from_residual.ensures.1 fails
-    (λ e other so. query_fails list_text (records_tree old.now.schema) (equals (col 1 1) (col 0 0) ∷ []) (col 1 2 ∷ col 1 3 ∷ []) ((col 1 2, up) ∷ []) (Text c.args.tab.now ∷ []) old (state g.S.Store c.query_rows.new.conn) e list_is_query
+    (λ e other so. query_fails list_text (records_tree old.now.schema) (equals (col 1 1) (col 0 0) ∷ []) (col 1 2 ∷ col 1 3 ∷ []) ((col 1 2, up) ∷ []) no_limit (Text c.args.tab.now ∷ []) old (state g.S.Store c.query_rows.new.conn) e list_is_query
     (λ is. ((declares is).statements.lists, list_accepted old.now.schema (declares is) c.args.tab.now)) other so)

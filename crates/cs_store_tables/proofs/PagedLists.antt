@@ -1,0 +1,164 @@
+-- A page of the records under a name is the page of the rows that is stored.
+use Rattle.std.proofs.Common.{◌≡◌, ◌≢◌, ◌<◌, ◌&&◌, ◌++◌, ℕ, zero, suc, List, [], ◌∷◌, map, take, filter, Option, Some, None, Bool, true, false, cond, T, Any, option_map, unwrap_or, inl, inr, refl, sym, ap, subst, ◌∙◌, arith}
+use Rattle.std.specs.List.{AllByRecursion, take-map}
+use Rattle.std.specs.Ordering.{nat_cmp, eq_by_cmp, is_lt}
+use Rattle.std.specs.Cmp.Lexicographic.{slice_cmp, texts_ties}
+use Rattle.std.specs.FinMap.{get, entries, entries_sorted, get-entries, is_sorted, find}
+use Rattle.std.specs.FinMap.Entries.{below_all}
+use Rattle.std.proofs.lemmas.Bool.{and_from, and_parts, cases_Bool}
+use Rattle.sqlite_trees.proofs.ListLemmas.{map-map, all-map, all-filter}
+use Rattle.cs_value.specs.declared.value.OwnedValue.{OwnedValue}
+use Rattle.cs_value.specs.declared.value.OwnedValue.TheVariants.{Int, Text, Blob, Null}
+use Rattle.sqlite_rules.specs.Lists.{Has}
+use Rattle.sqlite_rules.proofs.ListLemmas.{any_has}
+use Rattle.cs_value.specs.Key.{row_key}
+use Rattle.cs_value.specs.Table.{IsKeyedRow}
+use Rattle.cs_value.specs.Spelling.{value_bytes, row_bytes}
+use Rattle.cs_value.specs.State.{SchemaData, RowMap, TableData, State, IsState, schema_at, rows_at, row_at}
+use Rattle.cs_store_sql.specs.Records.{Records, ListsAfter, ListsPage, is_above}
+use Rattle.cs_store_sql.proofs.RowLemmas.{same_is}
+use Rattle.cs_store_encoding.specs.Stored.{Stores}
+use Rattle.cs_rows.specs.Rows.{IsRowIn}
+use Rattle.cs_rows.proofs.MemoryLemmas.{rows_at_found}
+use Rattle.cs_store_encoding.proofs.StoredLemmas.{row_stored}
+use Rattle.cs_store_tables.specs.Pages.{is_after, page_in}
+use Rattle.cs_store_tables.specs.Store.{AreStored}
+use Rattle.cs_store_tables.proofs.ReadLemmas.{row_fits}
+use Rattle.cs_store_tables.proofs.StoredLists.{Entries, sorted, same_lists, true_of, of_true, each_value, sorted_values, find_values, each_entry}
+
+-- ---- entries whose keys pass a test
+
+module _ {X : Type 0} (p : List ℕ → Bool) where
+  abbrev kept : Entries X → Entries X
+  kept es = filter (λ e. p e.0) es
+
+  -- they are below what all are below, and sorted
+  below_kept : (key : List ℕ) (es : Entries X) → below_all (slice_cmp nat_cmp) key es ≡ true → below_all (slice_cmp nat_cmp) key (kept es) ≡ true
+  below_kept key [] below = refl
+  below_kept key (e ∷ es) below =
+      let parts = and_parts _ _ below in
+      elim (cases_Bool (p e.0)) [
+        | inl passes ↦ rw passes (and_from _ _ parts.0 (below_kept key es parts.1))
+        | inr fails ↦ rw fails (below_kept key es parts.1)
+      ]
+
+  sorted_kept : (es : Entries X) → is_sorted (slice_cmp nat_cmp) es ≡ true → is_sorted (slice_cmp nat_cmp) (kept es) ≡ true
+  sorted_kept [] rising = refl
+  sorted_kept (e ∷ es) rising =
+      let parts = and_parts _ _ rising in
+      elim (cases_Bool (p e.0)) [
+        | inl passes ↦ rw passes (and_from _ _ (below_kept e.0 es parts.0) (sorted_kept es parts.1))
+        | inr fails ↦ rw fails (sorted_kept es parts.1)
+      ]
+
+  -- a key that passes finds there what it finds among all, and another finds nothing
+  find_kept : (q : List ℕ) (es : Entries X) → find (slice_cmp nat_cmp) q (kept es) ≡ cond (p q) (find (slice_cmp nat_cmp) q es) None
+  find_kept q [] = elim (p q) as (λ b. None ≡ cond b None None) [ true ↦ refl | false ↦ refl ]
+  find_kept q (e ∷ es) = elim (cases_Bool (eq_by_cmp (slice_cmp nat_cmp) q e.0)) [
+    | inl tied ↦ elim (cases_Bool (p e.0)) [
+      | inl passes ↦
+          let own : p q ≡ true = ap p (same_is q e.0 (texts_ties q e.0 ∙ tied)) ∙ passes in
+          rw (passes, tied, own) refl
+      | inr fails ↦
+          let own : p q ≡ false = ap p (same_is q e.0 (texts_ties q e.0 ∙ tied)) ∙ fails in
+          rw (fails, own) (find_kept q es ∙ rw own refl)
+    ]
+    | inr apart ↦ elim (cases_Bool (p e.0)) [
+      | inl passes ↦ rw (passes, apart) (find_kept q es)
+      | inr fails ↦ rw (fails, apart) (find_kept q es)
+    ]
+  ]
+
+-- what holds of all holds of the first
+all_first : {X : Type 0} (P : X → Type 0) (n : ℕ) (xs : List X) → AllByRecursion P xs → AllByRecursion P (take n xs)
+all_first P zero xs all = tt
+all_first P (suc n) [] all = tt
+all_first P (suc n) (x ∷ xs) all = (all.0, all_first P n xs all.1)
+
+-- ---- no key is empty
+
+not_empty : (b : ℕ) (bytes : List ℕ) → b ∷ bytes ≢ []
+not_empty b bytes e = cc
+
+-- a value is spelled with a byte
+some_bytes : (value : OwnedValue) (more : List ℕ) → value_bytes value ++ more ≢ []
+unfolding value_bytes
+some_bytes (Int z) more = not_empty _ _
+some_bytes (Text t) more = not_empty _ _
+some_bytes (Blob b) more = not_empty _ _
+some_bytes Null more = not_empty _ _
+
+-- so a key is
+some_key : (flags : List ℕ) (row : List OwnedValue) (flag : ℕ) → Has flags flag → 0 < flag → IsKeyedRow flags row → row_key flags row ≢ []
+some_key [] row flag has some keyed = absurd has
+some_key (zero ∷ flags) [] flag has some keyed = absurd keyed
+some_key (suc f ∷ flags) [] flag has some keyed = absurd keyed
+some_key (zero ∷ flags) (value ∷ row) flag (inl same) some keyed = absurd (omega (arith, same, some))
+some_key (zero ∷ flags) (value ∷ row) flag (inr later) some keyed = some_key flags row flag later some keyed
+some_key (suc f ∷ flags) (value ∷ row) flag has some keyed = some_bytes value _
+
+no_empty_key : (state : State) (name : List ℕ) → IsState state → row_at state name [] ≡ None
+no_empty_key state name is = at (row_at state name []) refl
+  where
+    at : (o : Option (List OwnedValue)) → row_at state name [] ≡ o → row_at state name [] ≡ None
+    at None none = none
+    at (Some row) some =
+        let fits = row_fits state name [] row is some in
+        let flag = any_has (λ flag. 0 < flag) fits.table.schema.flags (is name fits.table fits.found).is_table.schema.flags.some_key in
+        absurd (some_key fits.table.schema.flags row flag.0 flag.1 flag.2 fits.fit.keyed (sym fits.fit.own))
+
+-- ---- a page
+
+module _ (records : Records) (state : State) (name : List ℕ) (is : Stores records state) (some : name ≢ []) where
+  abbrev rows : RowMap
+  rows = rows_at state name
+
+  -- what is stored after a key, or from the first one on
+  stored_after : (after : Option (List ℕ)) (q : List ℕ) → cond (is_above (unwrap_or after []) q) (records name q) None ≡ option_map row_bytes (cond (is_after after q) (find (slice_cmp nat_cmp) q (entries rows)) None)
+  stored_after None [] = sym (ap (option_map row_bytes) (sym (get-entries rows []) ∙ no_empty_key state name is.is_state))
+  stored_after None (b ∷ q) = row_stored records state name (b ∷ q) is some ∙ ap (option_map row_bytes) (get-entries rows (b ∷ q))
+  stored_after (Some last) q =
+      elim (is_above last q) as (λ b. cond b (records name q) None ≡ option_map row_bytes (cond b (find (slice_cmp nat_cmp) q (entries rows)) None)) [
+        | true ↦ row_stored records state name q is some ∙ ap (option_map row_bytes) (get-entries rows q)
+        | false ↦ refl
+      ]
+
+  -- the records after a key spell the rows after it
+  after_spelled : (after : Option (List ℕ)) (all : Entries (List ℕ)) → ListsAfter records name (unwrap_or after []) all → all ≡ map (each_value row_bytes) (kept (is_after after) (entries rows))
+  after_spelled after all lists =
+      let those = kept (is_after after) (entries rows) in
+      same_lists all (map (each_value row_bytes) those) (of_true _ lists.rising) (of_true _ (sorted_values row_bytes those ∙ sorted_kept (is_after after) (entries rows) (true_of _ (entries_sorted rows))))
+      (λ q. lists.each q ∙ stored_after after q ∙ sym (find_values row_bytes q those ∙ ap (option_map row_bytes) (find_kept (is_after after) q (entries rows))))
+
+  -- a page of them spells the page of the rows
+  page_spelled : (after : Option (List ℕ)) (limit : ℕ) (listed : Entries (List ℕ)) → ListsPage records name (unwrap_or after []) limit listed → map (λ e. e.1) listed ≡ map row_bytes (page_in rows after limit)
+  page_spelled after limit listed lists =
+      let those = kept (is_after after) (entries rows) in
+      ap (map (λ e. e.1)) (lists.2 ∙ ap (take limit) (after_spelled after lists.0 lists.1) ∙ take-map (each_value row_bytes) limit those)
+      ∙ map-map (λ e. e.1) (each_value row_bytes) (take limit those)
+      ∙ sym (map-map row_bytes (λ e. e.1) (take limit those))
+
+  -- and its rows are stored as rows of the schema
+  pub page_is_stored : (schema : SchemaData) (after : Option (List ℕ)) (limit : ℕ) (listed : Entries (List ℕ)) → schema_at state name ≡ Some schema → ListsPage records name (unwrap_or after []) limit listed
+      → AreStored schema (map (λ e. e.1) listed) (page_in rows after limit)
+  page_is_stored schema after limit listed has lists = record { spelled = page_spelled after limit listed lists; each = at (get state name) refl }
+    where
+      at : (o : Option TableData) → get state name ≡ o → AllByRecursion (IsRowIn schema) (page_in rows after limit)
+      at None none = absurd (let e = sym has ∙ ap (option_map (λ (t : TableData). t.schema)) none in cc)
+      at (Some table) found =
+          let same : table.schema ≡ schema = let e = ap (option_map (λ (t : TableData). t.schema)) (sym found) ∙ has in cc in
+          let fit : AllByRecursion (λ e. IsRowIn table.schema e.1) (entries table.rows) =
+          each_entry (λ key row. IsRowIn table.schema row) (entries table.rows) (entries_sorted table.rows) (λ key row got.
+          let fit = (is.is_state name table found).is_table.rows key row (get-entries table.rows key ∙ got) in record { values = fit.values; keyed = fit.keyed; obeys = fit.obeys }) in
+          let those : Entries (List OwnedValue) = kept (is_after after) (entries table.rows) in
+          let each = all-map (IsRowIn table.schema) (λ e. e.1) (take limit those) (all_first _ limit those (all-filter (λ e. IsRowIn table.schema e.1) (λ e. is_after after e.0) (entries table.rows) fit)) in
+          subst (λ (r : RowMap). AllByRecursion (IsRowIn schema) (page_in r after limit)) (sym (rows_at_found state name table found))
+          (subst (λ (t : SchemaData). AllByRecursion (IsRowIn t) (page_in table.rows after limit)) same each)
+
+-- a table without rows has empty pages
+pub no_page : (after : Option (List ℕ)) (limit : ℕ) → page_in empty after limit ≡ []
+no_page after limit = ap (λ (es : Entries (List OwnedValue)). map (λ e. e.1) (take limit (kept (is_after after) es))) entries-empty ∙ ap (map (λ e. e.1)) (take_none limit)
+  where
+    take_none : (n : ℕ) → ◌≡◌ {A = Entries (List OwnedValue)} (take n []) []
+    take_none zero = refl
+    take_none (suc n) = refl
