@@ -1,11 +1,10 @@
 -- A page of the records under a name is the page of the rows that is stored.
 use Rattle.std.proofs.Common.{◌≡◌, ◌≢◌, ◌<◌, ◌&&◌, ◌++◌, ℕ, zero, suc, List, [], ◌∷◌, map, take, filter, Option, Some, None, Bool, true, false, cond, T, Any, option_map, unwrap_or, inl, inr, refl, sym, ap, subst, ◌∙◌, arith}
 use Rattle.std.specs.List.{AllByRecursion, take-map}
-use Rattle.std.specs.Ordering.{nat_cmp, eq_by_cmp, is_lt}
-use Rattle.std.specs.Cmp.Lexicographic.{slice_cmp, texts_ties}
-use Rattle.std.specs.FinMap.{get, entries, entries_sorted, get-entries, is_sorted, find}
-use Rattle.std.specs.FinMap.Entries.{below_all}
-use Rattle.std.proofs.lemmas.Bool.{and_from, and_parts, cases_Bool}
+use Rattle.std.specs.Ordering.{nat_cmp}
+use Rattle.std.specs.Cmp.Lexicographic.{slice_cmp}
+use Rattle.std.specs.FinMap.{empty, get, entries, entries_sorted, get-entries, find}
+use Rattle.std.specs.FinMap.Entries.{find-where_key, is_sorted-where_key}
 use Rattle.sqlite_trees.proofs.ListLemmas.{map-map, all-map, all-filter}
 use Rattle.cs_value.specs.declared.value.OwnedValue.{OwnedValue}
 use Rattle.cs_value.specs.declared.value.OwnedValue.TheVariants.{Int, Text, Blob, Null}
@@ -16,58 +15,23 @@ use Rattle.cs_value.specs.Table.{IsKeyedRow}
 use Rattle.cs_value.specs.Spelling.{value_bytes, row_bytes}
 use Rattle.cs_value.specs.State.{SchemaData, RowMap, TableData, State, IsState, schema_at, rows_at, row_at}
 use Rattle.cs_store_sql.specs.Records.{Records, ListsAfter, ListsPage, is_above}
-use Rattle.cs_store_sql.proofs.RowLemmas.{same_is}
+use Rattle.cs_store_sql.proofs.OrderLemmas.{tied_bytes}
 use Rattle.cs_store_encoding.specs.Stored.{Stores}
 use Rattle.cs_rows.specs.Rows.{IsRowIn}
-use Rattle.cs_rows.proofs.MemoryLemmas.{rows_at_found}
+use Rattle.cs_rows.proofs.MemoryLemmas.{no_values, rows_at_found}
 use Rattle.cs_store_encoding.proofs.StoredLemmas.{row_stored}
 use Rattle.cs_store_tables.specs.Pages.{is_after, page_in}
 use Rattle.cs_store_tables.specs.Store.{AreStored}
 use Rattle.cs_store_tables.proofs.ReadLemmas.{row_fits}
-use Rattle.cs_store_tables.proofs.StoredLists.{Entries, sorted, same_lists, true_of, of_true, each_value, sorted_values, find_values, each_entry}
+use Rattle.cs_store_tables.proofs.StoredLists.{Entries, sorted, same_lists, of_true, each_value, sorted_values, find_values, each_entry}
 
--- ---- entries whose keys pass a test
+-- the entries whose keys pass a test
+abbrev kept : {X : Type 0} → (List ℕ → Bool) → Entries X → Entries X
+kept p es = filter (λ e. p e.0) es
 
-module _ {X : Type 0} (p : List ℕ → Bool) where
-  abbrev kept : Entries X → Entries X
-  kept es = filter (λ e. p e.0) es
-
-  -- they are below what all are below, and sorted
-  below_kept : (key : List ℕ) (es : Entries X) → below_all (slice_cmp nat_cmp) key es ≡ true → below_all (slice_cmp nat_cmp) key (kept es) ≡ true
-  below_kept key [] below = refl
-  below_kept key (e ∷ es) below =
-      let parts = and_parts _ _ below in
-      elim (cases_Bool (p e.0)) [
-        | inl passes ↦ rw passes (and_from _ _ parts.0 (below_kept key es parts.1))
-        | inr fails ↦ rw fails (below_kept key es parts.1)
-      ]
-
-  sorted_kept : (es : Entries X) → is_sorted (slice_cmp nat_cmp) es ≡ true → is_sorted (slice_cmp nat_cmp) (kept es) ≡ true
-  sorted_kept [] rising = refl
-  sorted_kept (e ∷ es) rising =
-      let parts = and_parts _ _ rising in
-      elim (cases_Bool (p e.0)) [
-        | inl passes ↦ rw passes (and_from _ _ (below_kept e.0 es parts.0) (sorted_kept es parts.1))
-        | inr fails ↦ rw fails (sorted_kept es parts.1)
-      ]
-
-  -- a key that passes finds there what it finds among all, and another finds nothing
-  find_kept : (q : List ℕ) (es : Entries X) → find (slice_cmp nat_cmp) q (kept es) ≡ cond (p q) (find (slice_cmp nat_cmp) q es) None
-  find_kept q [] = elim (p q) as (λ b. None ≡ cond b None None) [ true ↦ refl | false ↦ refl ]
-  find_kept q (e ∷ es) = elim (cases_Bool (eq_by_cmp (slice_cmp nat_cmp) q e.0)) [
-    | inl tied ↦ elim (cases_Bool (p e.0)) [
-      | inl passes ↦
-          let own : p q ≡ true = ap p (same_is q e.0 (texts_ties q e.0 ∙ tied)) ∙ passes in
-          rw (passes, tied, own) refl
-      | inr fails ↦
-          let own : p q ≡ false = ap p (same_is q e.0 (texts_ties q e.0 ∙ tied)) ∙ fails in
-          rw (fails, own) (find_kept q es ∙ rw own refl)
-    ]
-    | inr apart ↦ elim (cases_Bool (p e.0)) [
-      | inl passes ↦ rw (passes, apart) (find_kept q es)
-      | inr fails ↦ rw (fails, apart) (find_kept q es)
-    ]
-  ]
+-- a key that passes finds there what it finds among all, and another finds nothing
+find_kept : {X : Type 0} (p : List ℕ → Bool) (q : List ℕ) (es : Entries X) → find (slice_cmp nat_cmp) q (kept p es) ≡ cond (p q) (find (slice_cmp nat_cmp) q es) None
+find_kept p q = find-where_key (slice_cmp nat_cmp) p q (λ x tied. ap p (sym (tied_bytes q x tied)))
 
 -- what holds of all holds of the first
 all_first : {X : Type 0} (P : X → Type 0) (n : ℕ) (xs : List X) → AllByRecursion P xs → AllByRecursion P (take n xs)
@@ -127,7 +91,7 @@ module _ (records : Records) (state : State) (name : List ℕ) (is : Stores reco
   after_spelled : (after : Option (List ℕ)) (all : Entries (List ℕ)) → ListsAfter records name (unwrap_or after []) all → all ≡ map (each_value row_bytes) (kept (is_after after) (entries rows))
   after_spelled after all lists =
       let those = kept (is_after after) (entries rows) in
-      same_lists all (map (each_value row_bytes) those) (of_true _ lists.rising) (of_true _ (sorted_values row_bytes those ∙ sorted_kept (is_after after) (entries rows) (true_of _ (entries_sorted rows))))
+      same_lists all (map (each_value row_bytes) those) (of_true _ lists.rising) (subst T (sym (sorted_values row_bytes those)) (is_sorted-where_key (slice_cmp nat_cmp) (is_after after) (entries rows) (entries_sorted rows)))
       (λ q. lists.each q ∙ stored_after after q ∙ sym (find_values row_bytes q those ∙ ap (option_map row_bytes) (find_kept (is_after after) q (entries rows))))
 
   -- a page of them spells the page of the rows
@@ -157,8 +121,12 @@ module _ (records : Records) (state : State) (name : List ℕ) (is : Stores reco
 
 -- a table without rows has empty pages
 pub no_page : (after : Option (List ℕ)) (limit : ℕ) → page_in empty after limit ≡ []
-no_page after limit = ap (λ (es : Entries (List OwnedValue)). map (λ e. e.1) (take limit (kept (is_after after) es))) entries-empty ∙ ap (map (λ e. e.1)) (take_none limit)
+no_page after limit = ap (λ (es : Entries (List OwnedValue)). map (λ e. e.1) (take limit (kept (is_after after) es))) (none_of (entries empty) no_values) ∙ ap (map (λ e. e.1)) (take_none limit)
   where
+    none_of : (es : Entries (List OwnedValue)) → map (λ e. e.1) es ≡ [] → es ≡ []
+    none_of [] none = refl
+    none_of (e ∷ es) none = absurd cc
+
     take_none : (n : ℕ) → ◌≡◌ {A = Entries (List OwnedValue)} (take n []) []
     take_none zero = refl
     take_none (suc n) = refl
