@@ -1,6 +1,6 @@
 //! Stores: tables of rows in a database.
 ghost use Rattle.std.specs.Prelude.{◌≡◌, ◌⊎◌, IsTrue, IfOk, IfErr, OnOk, OnErr, IfSome, None, Ok, Err, MatchResult};
-ghost use Rattle.std.specs.Prelude.{map as map_list, string_bytes, true};
+ghost use Rattle.std.specs.Prelude.{◌<◌, ◌^◌, map as map_list, option_map, string_bytes, true};
 ghost use Rattle.std.specs.FinMap as map;
 ghost use Rattle.cs_value.specs.State as tables;
 ghost use Rattle.cs_value.specs.State.{schema_at, row_at, rows_at};
@@ -19,6 +19,7 @@ ghost use Rattle.sqlite.specs.Held.{state};
 ghost use Rattle.sqlite_trees.specs.Tree.{Trees};
 ghost use Rattle.sqlite.specs.Steps.{over_memory};
 ghost use Rattle.cs_store_tables.specs.Store.{Adopts, Begins, HoldsTables, IsAtRest, IsDamaged, KeepsStore};
+ghost use Rattle.cs_store_tables.specs.Pages.{page_in};
 ghost use Rattle.cs_store_tables.specs.Store.{RefusesShut, tables_in};
 ghost use Rattle.cs_store.specs.Transacts.{Transacts};
 
@@ -342,6 +343,55 @@ impl<S: Alter> Store<S> {
         ensures kept { KeepsStore (state S.Store self.old) (state S.Store self.new) }
     {
         let listed = cs_store_tables::list_rows(&mut self.conn, &mut self.known, alloc, name)?;
+        match &self.known {
+            Some(_) => Ok(listed),
+            None => Err(StoreError::NoTable),
+        }
+    }
+
+    /// Returns a page of the rows of a table, in the order of the bytes of their keys: at most `limit` rows, from the
+    /// first one or from the one after a key, which need not be there. No other rows are read.
+    ///
+    /// # Errors
+    ///
+    /// `NoTable` if no table has the name, and those of [`tables`](Store::tables).
+    pub(crate) fn page(
+        &mut self,
+        alloc: Global,
+        name: &str,
+        after: Option<&Key>,
+        limit: u64,
+    ) -> Result<Vec<Row>, StoreError>
+        requires { limit < 2 ^ 63 }
+        ensures listed { HasCleanDisk (state S.Store self.new)
+            → IfOk result (λ rows. rows.items
+            ≡ page_in (rows_at (tables_in (state S.Store self.old).now) name.now)
+            (option_map (λ k. k.now) after.entry) limit) }
+        ensures declared { HasCleanDisk (state S.Store self.new)
+            → OnOk result (IsDeclared (tables_in (state S.Store self.old).now) name.now) }
+        ensures same { HasCleanDisk (state S.Store self.new) → OnOk result ((state S.Store self.new).now
+            ≡ (state S.Store self.old).now) }
+        ensures refused { HasCleanDisk (state S.Store self.new) → IfErr result (λ e. ((e ≡ NoSuchTable)
+            × (schema_at (tables_in (state S.Store self.old).now) name.now ≡ None)) ⊎ IsResource e) }
+        ensures shut { HasCleanDisk (state S.Store self.new)
+            → RefusesShut (state S.Store self.old) IsResource result }
+        ensures caused { HasCleanDisk (state S.Store self.new)
+            → IfErr result (IsCaused (ReadFails (state S.Store self.old) (state S.Store self.new))) }
+        ensures named { IfErr result (λ e. (e ≡ NoSuchTable) ⊎ IsReadRefusal e) }
+        ensures reads { HasCleanDisk (state S.Store self.new) → is_answered result ≡ true
+            → IsUnchanged (state S.Store self.old) (state S.Store self.new) }
+        ensures rests { HasCleanDisk (state S.Store self.new)
+            → Rests (state S.Store self.old) (state S.Store self.new) }
+        ensures kept { KeepsStore (state S.Store self.old) (state S.Store self.new) }
+    {
+        let listed = cs_store_tables::list_page(
+            &mut self.conn,
+            &mut self.known,
+            alloc,
+            name,
+            after,
+            limit,
+        )?;
         match &self.known {
             Some(_) => Ok(listed),
             None => Err(StoreError::NoTable),

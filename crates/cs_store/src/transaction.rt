@@ -1,6 +1,6 @@
 //! Transactions that own their store.
 ghost use Rattle.std.specs.Prelude.{◌≡◌, ◌⊎◌, true, false, List, None, Ok, Err, IsTrue, OnOk, OnErr, IfOk, IfErr};
-ghost use Rattle.std.specs.Prelude.{IfSome, MatchResult, map as map_list, not, string_bytes};
+ghost use Rattle.std.specs.Prelude.{◌<◌, ◌^◌, option_map, IfSome, MatchResult, map as map_list, not, string_bytes};
 ghost use Rattle.std.specs.FinMap as map;
 ghost use Rattle.sqlite.specs.Effect.{Database};
 ghost use Rattle.sqlite.specs.State.{HasCleanDisk, IsUnchanged, Savepoint, Shows, Survives};
@@ -17,6 +17,7 @@ ghost use Rattle.cs_store_sql.specs.Records.{IsUndone, KeepsContent, KeepsCrash,
 ghost use Rattle.cs_store_tables.specs.Crash.{IsAtomic, LeavesOnly};
 ghost use Rattle.cs_store_tables.specs.Failing.{BatchFails, BeginFails, CommitFails, IsDeclarationOf, LeadsOn, MarkFails};
 ghost use Rattle.cs_store_tables.specs.Failing.{ReadFails, ReleaseFails, Writes};
+ghost use Rattle.cs_store_tables.specs.Pages.{page_in};
 ghost use Rattle.cs_store_tables.specs.Store.{AddsTable, Begins, Ends, HoldsState, IsInside, KeepsStore, RefusesShut};
 ghost use Rattle.cs_store_tables.specs.Store.{tables_in};
 ghost use Rattle.cs_store.specs.Within.{EndsCall, HasBefore, Within};
@@ -357,6 +358,44 @@ impl<S: Alter> Transaction<S> {
         ensures kept { KeepsStore (state S.Store self.old) (state S.Store self.new) }
     {
         self.store.rows(alloc, name)
+    }
+
+    /// Returns a page of the rows of a table, in the order of the bytes of their keys: at most `limit` rows, from the
+    /// first one or from the one after a key, which need not be there. No other rows are read.
+    ///
+    /// # Errors
+    ///
+    /// `NoTable` if no table has the name, and those of [`tables`](Transaction::tables).
+    pub fn page(
+        &mut self,
+        alloc: Global,
+        name: &str,
+        after: Option<&Key>,
+        limit: u64,
+    ) -> Result<Vec<Row>, StoreError>
+        requires { limit < 2 ^ 63 }
+        ensures listed { HasCleanDisk (state S.Store self.new)
+            → IfOk result (λ rows. rows.items
+            ≡ page_in (rows_at (tables_in (state S.Store self.old).now) name.now)
+            (option_map (λ k. k.now) after.entry) limit) }
+        ensures declared { HasCleanDisk (state S.Store self.new)
+            → OnOk result (IsDeclared (tables_in (state S.Store self.old).now) name.now) }
+        ensures same { HasCleanDisk (state S.Store self.new) → OnOk result ((state S.Store self.new).now
+            ≡ (state S.Store self.old).now) }
+        ensures refused { HasCleanDisk (state S.Store self.new) → IfErr result (λ e. ((e ≡ NoSuchTable)
+            × (schema_at (tables_in (state S.Store self.old).now) name.now ≡ None)) ⊎ IsResource e) }
+        ensures shut { HasCleanDisk (state S.Store self.new)
+            → RefusesShut (state S.Store self.old) IsResource result }
+        ensures caused { HasCleanDisk (state S.Store self.new)
+            → IfErr result (IsCaused (ReadFails (state S.Store self.old) (state S.Store self.new))) }
+        ensures named { IfErr result (λ e. (e ≡ NoSuchTable) ⊎ IsReadRefusal e) }
+        ensures reads { HasCleanDisk (state S.Store self.new) → is_answered result ≡ true
+            → IsUnchanged (state S.Store self.old) (state S.Store self.new) }
+        ensures rests { HasCleanDisk (state S.Store self.new)
+            → Rests (state S.Store self.old) (state S.Store self.new) }
+        ensures kept { KeepsStore (state S.Store self.old) (state S.Store self.new) }
+    {
+        self.store.page(alloc, name, after, limit)
     }
 
     /// Returns the row of a table under a key, or None if no row has the key.
