@@ -60,7 +60,7 @@ module _ {A B : Type 0} (f : A → B) where
 -- ---- the rows that pass
 
 -- to keep an environment for each row that passes is to make one of each that is kept
-chosen_matches : {X : Type 0} (p : Row → Bool) (f : Row → X) (rows : List Row) → flat_map (λ r. cond (p r) (f r ∷ []) []) rows ≡ map f (filter p rows)
+pub chosen_matches : {X : Type 0} (p : Row → Bool) (f : Row → X) (rows : List Row) → flat_map (λ r. cond (p r) (f r ∷ []) []) rows ≡ map f (filter p rows)
 chosen_matches p f [] = refl
 chosen_matches p f (r ∷ rows) = elim (cases_Bool (p r)) [
   | inl passes ↦ rw passes (ap (λ xs. f r ∷ xs) (chosen_matches p f rows))

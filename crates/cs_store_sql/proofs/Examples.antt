@@ -16,7 +16,7 @@ use Rattle.sqlite_resolve.specs.declared.error.CompileError.{CompileError}
 use Rattle.sqlite_tied.specs.Compute.{everything}
 use Rattle.cs_store_sql.specs.Records.{required, records_table, IsApart, IsOfKey, DeclaresRecords, IsDeclaredOtherwise, LacksRecords}
 use Rattle.cs_store_sql.specs.Meaning.{AreStatements}
-use Rattle.cs_store_sql.specs.Statements.{find_text, find_query, list_text, list_query, page_text, page_query, scan_text, scan_query, put_text, put_command, remove_text, remove_command, alone, IsStatement, IsSelectOf}
+use Rattle.cs_store_sql.specs.Statements.{find_text, find_query, list_text, list_query, count_text, count_query, page_text, page_query, scan_text, scan_query, put_text, put_command, remove_text, remove_command, alone, IsStatement, IsSelectOf}
 
 -- ---- schemas
 
@@ -68,6 +68,7 @@ Commands schema sql count command = Says sql count (λ its. its ≡ command) (co
 record Texts (schema : Schema) (index tree : ℕ) : Type 0 where
   finds : Selects schema find_text 2 (find_query tree)
   lists : Selects schema list_text 1 (list_query tree)
+  counts : Selects schema count_text 1 (count_query tree)
   pages : Selects schema page_text 3 (page_query tree)
   scans : Selects schema scan_text 0 (scan_query tree)
   inserts : Commands schema (put_text true) 3 (put_command index tree true)
@@ -78,6 +79,7 @@ statements : (schema : Schema) (index tree : ℕ) → Texts schema index tree �
 statements schema index tree t = record {
   finds = said schema find_text 2 (λ its. IsSelectOf its (alone (find_query tree))) t.finds;
   lists = said schema list_text 1 (λ its. IsSelectOf its (alone (list_query tree))) t.lists;
+  counts = said schema count_text 1 (λ its. IsSelectOf its (alone (count_query tree))) t.counts;
   pages = said schema page_text 3 (λ its. IsSelectOf its (alone (page_query tree))) t.pages;
   scans = said schema scan_text 0 (λ its. IsSelectOf its (alone (scan_query tree))) t.scans;
   writes = record {
@@ -96,6 +98,7 @@ unfolding compiled first everything
 texts_alone = record {
   finds = (refl, refl, omega arith, refl, (_, refl));
   lists = (refl, refl, omega arith, refl, (_, refl));
+  counts = (refl, refl, omega arith, refl, (_, refl));
   pages = (refl, refl, omega arith, refl, (_, refl));
   scans = (refl, refl, omega arith, refl, (_, refl));
   inserts = (refl, refl, omega arith, refl, refl);
@@ -112,6 +115,7 @@ unfolding compiled first everything
 texts_after = record {
   finds = (refl, refl, omega arith, refl, (_, refl));
   lists = (refl, refl, omega arith, refl, (_, refl));
+  counts = (refl, refl, omega arith, refl, (_, refl));
   pages = (refl, refl, omega arith, refl, (_, refl));
   scans = (refl, refl, omega arith, refl, (_, refl));
   inserts = (refl, refl, omega arith, refl, refl);

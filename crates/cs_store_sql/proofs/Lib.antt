@@ -1,6 +1,7 @@
 pub mod AddLemmas
 pub mod AnswerLemmas
 pub mod ContentLemmas
+pub mod CountedRows
 pub mod FailureLemmas
 pub mod EditLemmas
 mod ExpectedLemmas

@@ -53,7 +53,7 @@ abbrev pub by_key : Row → Row → Ordering
 by_key a b = slice_cmp nat_cmp (content (column a 2)) (content (column b 2))
 
 -- on rows of records the query tests and sorts by these
-list_passes : (tree : ℕ) (tab : List ℕ) (row : Row) → IsRecordRow row → passes_where (list_query tree) (Text tab ∷ []) row ≡ has_name tab row
+pub list_passes : (tree : ℕ) (tab : List ℕ) (row : Row) → IsRecordRow row → passes_where (list_query tree) (Text tab ∷ []) row ≡ has_name tab row
 list_passes tree tab row r = rw (name_passes row tab r, and-true)
 
 list_sorts : (tree : ℕ) (tab : List ℕ) (a b : Row) → IsRecordRow a → IsRecordRow b → sorts (list_query tree) (Text tab ∷ []) a b ≡ by_key a b
@@ -87,6 +87,26 @@ found_entry tab key (row ∷ rows) named =
     found_step (λ r. content (column r 3)) _ (has_name tab row) (bytes_eq here key) row _ (find (is_under tab key) rows)
     (sym (texts_ties key here) ∙ nat_list_eq_equiv.symm key here) named.0 (found_entry tab key rows named.1)
 
+-- the rows of a name, in the order of their keys, list its records
+pub lists_chosen : (tab : List ℕ) (db : Database) (by : Row → Row → Ordering) → ((a b : Row) → IsRecordRow a → IsRecordRow b → by a b ≡ by_key a b) → (chosen : List Row) → HoldsRecords db
+    → IsPermutation (filter (has_name tab) (record_rows db)) chosen → IsAscending (λ a b. is_lt (by b a) ≡ false) chosen → ListsTable (records_in db) tab (map keyed_of chosen)
+lists_chosen tab db by so chosen h same up =
+    let all = record_rows db in
+    let records = are_records db h in
+    let named_records = records_filtered (has_name tab) all records in
+    let chosen_records = records_permuted _ chosen same named_records in
+    let named : AllByRecursion (λ row. has_name tab row ≡ true) chosen =
+    all_from (λ row. has_name tab row ≡ true) chosen (λ row has. (has_filtered (has_name tab) all row (has_permuted chosen _ row (IsPermutation-sym _ _ same) has)).1) in
+    let one : (a b : Row) → Has chosen a → Has chosen b → by_key a b ≡ Equal → HaveOneKey a b = λ a b p q tied. record {
+      tab = same_is _ tab (all_has (λ row. has_name tab row ≡ true) chosen a named p) ∙ sym (same_is _ tab (all_has (λ row. has_name tab row ≡ true) chosen b named q));
+      key = tied_bytes _ _ tied;
+    } in
+    record {
+      rising = sorted_entries (map keyed_of chosen) (ascending-map (λ a b. slice_cmp nat_cmp a.0 b.0 ≡ Less) keyed_of chosen
+          (rise by by_key (on_total (λ r. content (column r 2)) nat_list_cmp_total) so chosen one chosen_records up));
+      each = λ key. found_entry tab key chosen named ∙ records_of-permutation _ chosen tab key named_records same ∙ records_of-filter (has_name tab) all tab key (λ row has fails. rw fails);
+    }
+
 -- the query lists the records under a name
 pub lists_table : (tab : List ℕ) (old new : State) (rows : List Row) → HoldsRecords old.now → Shown list_text (Text tab ∷ []) old new rows
     → ListsTable (records_in old.now) tab (map shown_keyed rows)
@@ -98,20 +118,8 @@ lists_table tab old new rows h shown =
     let passing : filter (passes_where (list_query tree) (Text tab ∷ [])) all ≡ filter (has_name tab) all =
     filter_same (passes_where (list_query tree) (Text tab ∷ [])) (has_name tab) all (all_weaker IsRecordRow _ (list_passes tree tab) all records.each) in
     let same : IsPermutation (filter (has_name tab) all) s.chosen = subst (λ l. IsPermutation l s.chosen) passing s.same in
-    let named_records = records_filtered (has_name tab) all records in
-    let chosen_records = records_permuted _ s.chosen same named_records in
     let listed : map shown_keyed rows ≡ map keyed_of s.chosen = ap (map shown_keyed) s.is ∙ map-map shown_keyed _ s.chosen in
-    let named : AllByRecursion (λ row. has_name tab row ≡ true) s.chosen =
-    all_from (λ row. has_name tab row ≡ true) s.chosen (λ row has. (has_filtered (has_name tab) all row (has_permuted s.chosen _ row (IsPermutation-sym _ _ same) has)).1) in
-    let one : (a b : Row) → Has s.chosen a → Has s.chosen b → by_key a b ≡ Equal → HaveOneKey a b = λ a b p q tied. record {
-      tab = same_is _ tab (all_has (λ row. has_name tab row ≡ true) s.chosen a named p) ∙ sym (same_is _ tab (all_has (λ row. has_name tab row ≡ true) s.chosen b named q));
-      key = tied_bytes _ _ tied;
-    } in
-    subst (ListsTable (records_in old.now) tab) (sym listed) (record {
-      rising = sorted_entries (map keyed_of s.chosen) (ascending-map (λ a b. slice_cmp nat_cmp a.0 b.0 ≡ Less) keyed_of s.chosen
-          (rise (sorts (list_query tree) (Text tab ∷ [])) by_key (on_total (λ r. content (column r 2)) nat_list_cmp_total) (list_sorts tree tab) s.chosen one chosen_records s.rising));
-      each = λ key. found_entry tab key s.chosen named ∙ records_of-permutation _ s.chosen tab key named_records same ∙ records_of-filter (has_name tab) all tab key (λ row has fails. rw fails);
-    })
+    subst (ListsTable (records_in old.now) tab) (sym listed) (lists_chosen tab old.now (sorts (list_query tree) (Text tab ∷ [])) (list_sorts tree tab) s.chosen h same s.rising)
 
 -- ---- what is listed, and what is there
 

@@ -14,7 +14,7 @@ use Rattle.sqlite_tied.specs.Compute.{everything}
 use Rattle.sqlite.specs.Listing.{understood, reads_listing, listing_schema, if_select, is_select}
 use Rattle.sqlite.proofs.Callers.{IsPlain, command_of}
 use Rattle.cs_store_sql.specs.Records.{ShowsOnly, IsQuery}
-use Rattle.cs_store_sql.specs.Statements.{find_text, list_text, page_text, scan_text, IsPlainStatement, IsCommand}
+use Rattle.cs_store_sql.specs.Statements.{find_text, list_text, count_text, page_text, scan_text, IsPlainStatement, IsCommand}
 
 -- ---- a SELECT writes nothing, whatever the schema is
 
@@ -66,6 +66,10 @@ find_is_query = select_is_query find_text refl
 pub list_is_query : IsQuery list_text
 unfolding first everything
 list_is_query = select_is_query list_text refl
+
+pub count_is_query : IsQuery count_text
+unfolding first everything
+count_is_query = select_is_query count_text refl
 
 pub page_is_query : IsQuery page_text
 unfolding first everything

@@ -1,5 +1,5 @@
 -- Why a query on records fails: the disk failed, memory ran out, or its steps are limited.
-use Rattle.std.proofs.Common.{◌≡◌, ◌≢◌, inl, inr, ℕ, zero, suc, ◌+◌, ◌≤◌, ◌^◌, ◌==◌, nat_le, pos, true, false, true≢false, append-nil, List, [], ◌∷◌, length, find, slice_get, Some, IsSome, Any, refl, sym, ap, subst, ◌∙◌, arith}
+use Rattle.std.proofs.Common.{◌≡◌, ◌≢◌, inl, inr, ℕ, zero, suc, ◌+◌, ◌≤◌, ◌^◌, ◌==◌, nat_le, pos, true, false, true≢false, append-nil, List, [], ◌∷◌, length, find, slice_get, None, Some, IsSome, Any, refl, sym, ap, subst, ◌∙◌, arith}
 use Rattle.std.proofs.Common.{IsTrue}
 use Rattle.std.specs.List.{AllByRecursion, position_from}
 use Rattle.std.proofs.lemmas.Bool.{cases_Bool, lt-leb, false_from_ne_true, eqb-true, eq-eqb}
@@ -9,7 +9,9 @@ use Rattle.sqlite_value.specs.declared.keys.Key.{Key}
 use Rattle.sqlite_value.specs.Order.{Row}
 use Rattle.sqlite_trees.specs.Tree.{Trees}
 use Rattle.sqlite_sql.specs.Term.{Term}
+use Rattle.sqlite_sql.specs.Group.{value_over}
 use Rattle.sqlite_sql.specs.Query.{Query}
+use Rattle.sqlite_rules.proofs.ListLemmas.{any_has}
 use Rattle.sqlite_sql.specs.Program.{ProgramOverflows, overlay}
 use Rattle.sqlite_typing.specs.Types.{accepts}
 use Rattle.sqlite_schema.specs.Names.{same_name}
@@ -27,7 +29,7 @@ use Rattle.sqlite_disk.specs.Disk.{MoreFaults}
 use Rattle.sqlite_trees.specs.declared.error.StoreError.{StoreError}
 use Rattle.sqlite_trees.specs.declared.error.StoreError.TheVariants as store
 use Rattle.cs_store_sql.specs.Failing.{CannotRead, HasDiskFailed, IsHindered}
-use Rattle.cs_store_sql.specs.Statements.{find_query, list_query, page_query, scan_query, limited_query, alone, IsSelect}
+use Rattle.cs_store_sql.specs.Statements.{find_query, list_query, count_query, page_query, scan_query, all_rows, counting_query, limited_query, alone, IsSelect}
 use Rattle.cs_store_sql.proofs.QueryLemmas.{returns_nothing}
 use Rattle.cs_store_sql.proofs.QueryTexts.{understood_is, unlisted}
 use Rattle.cs_store_sql.proofs.StatementLemmas.{IsWhole, is_statement, by_disk}
@@ -37,30 +39,35 @@ use Rattle.cs_store_sql.proofs.StatementLemmas.{IsWhole, is_statement, by_disk}
 no_any : {X : Type 0} (xs : List X) → ¬ Any (λ _. ⊥) xs
 no_any xs h = h.4
 
-module _ (sql : List ℕ) (tree : ℕ) (terms project : List Term) (order : List (Term × Key)) (limit : Term) (params : Row) (old new : State) (e : Error) where
-  abbrev q : Query
-  q = limited_query tree terms project order limit
+-- it sums nothing up
+no_fold : (tree : ℕ) (terms project : List Term) (order : List (Term × Key)) (limit : Term) (params : Row) (db : Trees) → ¬ ProgramOverflows db params [] [] (limited_query tree terms project order limit)
+no_fold tree terms project order limit params db (inl none) = none
+no_fold tree terms project order limit params db (inr fold) = no_any (overlay db [] tree) fold
 
-  -- it sums nothing up
-  no_fold : (db : Trees) → ¬ ProgramOverflows db params [] [] q
-  no_fold db (inl none) = none
-  no_fold db (inr fold) = no_any (overlay db [] tree) fold
+-- nor does one that counts
+no_sum : (tree : ℕ) (terms : List Term) (params : Row) (db : Trees) → ¬ ProgramOverflows db params [] [] (counting_query tree terms)
+no_sum tree terms params db (inl over) =
+    let group = any_has _ over.0 over.2 in
+    let it = any_has _ all_rows.aggregates group.2 in
+    elim it.1 [ inl same ↦ (let none = subst (λ a. value_over group.0 a ≡ None) same it.2 in cc) | inr later ↦ later ]
+no_sum tree terms params db (inr fold) = no_any (overlay db [] tree) fold
 
+module _ (sql : List ℕ) (q : Query) (params : Row) (old new : State) (e : Error) (no_overflow : (db : Trees) → ¬ ProgramOverflows db params [] [] q) where
   -- where it is accepted, it is refused only for a limit on steps
   refused_limit : accepts old.now.schema q params ≡ true → RefusesQuery old.step_limit old.now (alone q) params e → (e ≡ SqliteFailure OperationInterrupted) × IsSome old.step_limit
   refused_limit accepted (inl mistyped) = absurd (true≢false (sym accepted ∙ mistyped.1))
-  refused_limit accepted (inr (inl overflows)) = absurd (no_fold old.now.trees overflows.1)
+  refused_limit accepted (inr (inl overflows)) = absurd (no_overflow old.now.trees overflows.1)
   refused_limit accepted (inr (inr limited)) = limited
 
   -- and fails only for the disk, for memory or for that limit
-  pub query_fails : IsQuery sql → (IsTrue old.is_open → IsSelect old.now.schema sql (length params) q × (accepts old.now.schema q params ≡ true)) → e ≢ SqliteFailure OutOfMemory
+  fails_so : IsQuery sql → (IsTrue old.is_open → IsSelect old.now.schema sql (length params) q × (accepts old.now.schema q params ≡ true)) → e ≢ SqliteFailure OutOfMemory
       → FailsToQuery sql params old new e → CannotRead old new e
   unfolding FailsToQuery IsNotRun
-  query_fails query known other (inl (inl it)) =
+  fails_so query known other (inl (inl it)) =
       let asks = (known it.1.0.was_open).0 in
       absurd (is_statement old sql params e (subst (IsWhole sql (length params)) (sym (understood_is old.now.schema sql asks.0 asks.1.is)) (asks.1.whole, asks.1.given, asks.1.reads_no_time)) it.0)
-  query_fails query known other (inl (inr fails)) = inl (by_disk old new e ⊥ (λ none. none) other fails)
-  query_fails query known other (inr (c, it, shows)) =
+  fails_so query known other (inl (inr fails)) = inl (by_disk old new e ⊥ (λ none. none) other fails)
+  fails_so query known other (inr (c, it, shows)) =
       let quiet = rw (returns_nothing sql params old c query it) at shows in
       let asked = known quiet.3.0.was_open in
       let asks = asked.0 in
@@ -70,6 +77,16 @@ module _ (sql : List ℕ) (tree : ℕ) (terms project : List Term) (order : List
       let shown = rw (plain, command, append-nil params, unlisted old.now.schema sql asks.0 asks.1.is) at quiet in
       let at_now : RefusesQuery old.step_limit old.now (alone q) params e = subst (λ (db : Database). RefusesQuery old.step_limit db (alone q) params e) shown.1 shown.2 in
       inr (refused_limit asked.1 at_now)
+
+pub query_fails : (sql : List ℕ) (tree : ℕ) (terms project : List Term) (order : List (Term × Key)) (limit : Term) (params : Row) (old new : State) (e : Error) → IsQuery sql
+    → (IsTrue old.is_open → IsSelect old.now.schema sql (length params) (limited_query tree terms project order limit) × (accepts old.now.schema (limited_query tree terms project order limit) params ≡ true))
+    → e ≢ SqliteFailure OutOfMemory → FailsToQuery sql params old new e → CannotRead old new e
+query_fails sql tree terms project order limit params old new e = fails_so sql (limited_query tree terms project order limit) params old new e (no_fold tree terms project order limit params)
+
+pub count_fails : (sql : List ℕ) (tree : ℕ) (terms : List Term) (params : Row) (old new : State) (e : Error) → IsQuery sql
+    → (IsTrue old.is_open → IsSelect old.now.schema sql (length params) (counting_query tree terms) × (accepts old.now.schema (counting_query tree terms) params ≡ true))
+    → e ≢ SqliteFailure OutOfMemory → FailsToQuery sql params old new e → CannotRead old new e
+count_fails sql tree terms params old new e = fails_so sql (counting_query tree terms) params old new e (no_sum tree terms params)
 
 -- ---- the table of a tree
 
@@ -106,6 +123,9 @@ module _ (schema : Schema) (declares : DeclaresRecords schema) where
 
   pub list_accepted : (tab : List ℕ) → accepts schema (list_query tree) (Text tab ∷ []) ≡ true
   list_accepted tab = rw (is_stored, table_found) refl
+
+  pub count_accepted : (tab : List ℕ) → accepts schema (count_query tree) (Text tab ∷ []) ≡ true
+  count_accepted tab = rw (is_stored, table_found) refl
 
   pub page_accepted : (tab key : List ℕ) (most : ℕ) → accepts schema (page_query tree) (Text tab ∷ Blob key ∷ Int (pos most) ∷ []) ≡ true
   page_accepted tab key most = rw (is_stored, table_found) refl

@@ -4,7 +4,7 @@ use Rattle.sqlite_schema.specs.declared.schema.Schema.{Schema}
 use Rattle.sqlite_schema.specs.declared.command.Command.{Command}
 use Rattle.cs_store_sql.specs.declared.meaning.Meant.{Meant}
 use Rattle.cs_store_sql.specs.declared.meaning.Meant.TheVariants as meant
-use Rattle.cs_store_sql.specs.Statements.{find_text, find_query, list_text, list_query, page_text, page_query, scan_text, scan_query, put_text, put_command, remove_text, remove_command, alone, expected_query, IsCommand, IsSelectOf, IsSelect}
+use Rattle.cs_store_sql.specs.Statements.{find_text, find_query, list_text, list_query, count_text, count_query, page_text, page_query, scan_text, scan_query, put_text, put_command, remove_text, remove_command, alone, expected_query, IsCommand, IsSelectOf, IsSelect}
 
 -- the command is this one, on the table that has this index in the schema, and this tree
 abbrev pub IsMeant : Command → ℕ → ℕ → Meant → Type 0
@@ -23,6 +23,7 @@ pub record AreWrites (schema : Schema) (index tree : ℕ) : Type 0 where
 pub record AreStatements (schema : Schema) (index tree : ℕ) : Type 0 where
   pub finds : IsSelect schema find_text 2 (find_query tree)
   pub lists : IsSelect schema list_text 1 (list_query tree)
+  pub counts : IsSelect schema count_text 1 (count_query tree)
   pub pages : IsSelect schema page_text 3 (page_query tree)
   pub scans : IsSelect schema scan_text 0 (scan_query tree)
   pub writes : AreWrites schema index tree

@@ -1,6 +1,6 @@
 -- Records in one SQL table: a record has the name of a table, a key and a value, and no two records have both the name
 -- and the key.
-use Rattle.std.specs.Prelude.{bytes_eq, ◌⊎◌, ◌≡◌, ◌≢◌, ◌<◌, ◌≤◌, ◌^◌, ◌<ℤ◌, ℕ, ℤ, Bool, true, false, ◌&&◌, if◌then◌else◌, List, [], ◌∷◌, codes, take}
+use Rattle.std.specs.Prelude.{bytes_eq, ◌⊎◌, ◌≡◌, ◌≢◌, ◌<◌, ◌≤◌, ◌^◌, ◌<ℤ◌, ℕ, ℤ, Bool, true, false, ◌&&◌, if◌then◌else◌, List, [], ◌∷◌, codes, take, length}
 use Rattle.std.specs.Prelude.{Option, Some, None, option_map, option_and_then, unwrap_or, slice_get, Result, Ok, Err, ⊤, IsTrue, IsSome, IfSome, All, AllPairs}
 use Rattle.std.specs.List.{AllByRecursion, find}
 use Rattle.std.specs.Cmp.Lexicographic.{slice_cmp}
@@ -193,6 +193,10 @@ pub record Pass (Passes : RecordData → Type 0) (rows : List Row) : Type 0 wher
 pub record ListsTable (records : Records) (tab : List ℕ) (listed : List (List ℕ × List ℕ)) : Type 0 where
   pub rising : IsTrue (is_sorted (slice_cmp nat_cmp) listed)
   pub each : (key : List ℕ) → find_entry (slice_cmp nat_cmp) key listed ≡ records tab key
+
+-- so many records are under a name
+abbrev pub Counts : Records → List ℕ → ℕ → Type 0
+Counts records tab n = (listed : List (List ℕ × List ℕ)) × ListsTable records tab listed × (n ≡ length listed)
 
 -- the key is greater than that one
 abbrev pub is_above : List ℕ → List ℕ → Bool

@@ -7,6 +7,8 @@ use Rattle.sqlite_value.specs.Keys.{ascending}
 use Rattle.sqlite_sql.specs.declared.ops.BinaryOp.TheVariants.{Compare}
 use Rattle.sqlite_sql.specs.declared.ops.CompareOp.TheVariants.{Eq, Gt}
 use Rattle.sqlite_sql.specs.Term.{Term, lit, col, op2}
+use Rattle.sqlite_sql.specs.declared.aggregate.AggregateOp.TheVariants.{CountRows}
+use Rattle.sqlite_sql.specs.Group.{Grouping}
 use Rattle.sqlite_sql.specs.Query.{Query, inner, end}
 use Rattle.sqlite_schema.specs.declared.schema.Schema.{Schema}
 use Rattle.sqlite_schema.specs.declared.program.Program.{Program}
@@ -36,6 +38,10 @@ list_text = codes "SELECT keyb, rowb FROM rec WHERE tab = ?1 ORDER BY keyb"
 abbrev pub page_text : List ℕ
 page_text = codes "SELECT keyb, rowb FROM rec WHERE tab = ?1 AND keyb > ?2 ORDER BY keyb LIMIT ?3"
 
+-- how many records are under a name
+abbrev pub count_text : List ℕ
+count_text = codes "SELECT count(*) FROM rec WHERE tab = ?1"
+
 -- the number of each row and its record, by these numbers
 abbrev pub scan_text : List ℕ
 scan_text = codes "SELECT rowid, tab, keyb, rowb FROM rec ORDER BY rowid"
@@ -59,12 +65,21 @@ create_text = codes "CREATE TABLE IF NOT EXISTS rec(tab TEXT NOT NULL, keyb BLOB
 abbrev pub up : Key
 up = ascending Binary
 
+-- all rows are one group, of which their number is taken
+abbrev pub all_rows : Grouping
+all_rows = record {
+  keys = [];
+  collations = [];
+  aggregates = record { op = CountRows; distinct = false; collation = Binary; argument = lit value.Null } ∷ [];
+  having = [];
+}
+
 -- rows of the table with this tree that pass, shown and in an order, and at most so many
-abbrev pub limited_query : ℕ → List Term → List Term → List (Term × Key) → Term → Query
-limited_query tree filter project order limit = record {
+abbrev pub grouped_query : Option Grouping → ℕ → List Term → List Term → List (Term × Key) → Term → Query
+grouped_query group tree filter project order limit = record {
   from = inner tree end;
   filter = filter;
-  group = None;
+  group = group;
   project = project;
   distinct = false;
   collations = [];
@@ -72,6 +87,9 @@ limited_query tree filter project order limit = record {
   limit = limit;
   offset = lit (value.Int (pos 0));
 }
+
+abbrev pub limited_query : ℕ → List Term → List Term → List (Term × Key) → Term → Query
+limited_query = grouped_query None
 
 -- all of them
 abbrev pub no_limit : Term
@@ -104,9 +122,14 @@ abbrev pub expected_limit : Option ℕ → Term
 expected_limit None = no_limit
 expected_limit (Some param) = col 0 param
 
+-- the rows that pass, or their number
+abbrev pub expected_group : Bool → Option Grouping
+expected_group false = None
+expected_group true = Some all_rows
+
 abbrev pub expected_query : ℕ → Shape → Query
 expected_query tree shape =
-    limited_query tree (map expected_term shape.filter.now) (map expected_term shape.project.now) (map by_column shape.order.now) (expected_limit shape.limit)
+    grouped_query (expected_group shape.counted) tree (map expected_term shape.filter.now) (map expected_term shape.project.now) (map by_column shape.order.now) (expected_limit shape.limit)
 
 -- ---- what the texts are
 
@@ -124,6 +147,13 @@ list_query tree = plain_query tree (equals (col 1 1) (col 0 0) ∷ []) (col 1 2 
 abbrev pub page_query : ℕ → Query
 page_query tree =
     limited_query tree (equals (col 1 1) (col 0 0) ∷ above (col 1 2) (col 0 1) ∷ []) (col 1 2 ∷ col 1 3 ∷ []) ((col 1 2, up) ∷ []) (col 0 2)
+
+-- one row with the number of the rows that pass
+abbrev pub counting_query : ℕ → List Term → Query
+counting_query tree filter = grouped_query (Some all_rows) tree filter (col 1 0 ∷ []) [] no_limit
+
+abbrev pub count_query : ℕ → Query
+count_query tree = counting_query tree (equals (col 1 1) (col 0 0) ∷ [])
 
 abbrev pub scan_query : ℕ → Query
 scan_query tree = plain_query tree [] (col 1 0 ∷ col 1 1 ∷ col 1 2 ∷ col 1 3 ∷ []) ((col 1 0, up) ∷ [])

@@ -1,14 +1,15 @@
 //! A compiled query, compared with one that is expected.
-ghost use Rattle.std.specs.Prelude.{◌≡◌, ◌↔◌, length, map, IsTrue};
+ghost use Rattle.std.specs.Prelude.{◌≡◌, ◌↔◌, length, map, option_map, IsTrue};
 ghost use Rattle.sqlite_value.specs.declared.value.Value.TheVariants.{Int as Number};
 ghost use Rattle.sqlite_sql.specs.Term.{lit, col};
 ghost use Rattle.sqlite_sql.specs.Query.{inner, end};
-ghost use Rattle.sqlite_sql.specs.Syntax.{term_at, term_of, terms_of, order_of, join_at, query_of};
-ghost use Rattle.cs_store_sql.specs.Statements.{equals, above, expected_term, expected_limit, by_column, expected_query};
+ghost use Rattle.sqlite_sql.specs.Syntax.{term_at, term_of, terms_of, order_of, join_at, grouping_of, query_of};
+ghost use Rattle.cs_store_sql.specs.Statements.{equals, above, expected_term, expected_limit, expected_group, all_rows, by_column, expected_query};
 
+use sqlite_sql::aggregate::AggregateOp;
 use sqlite_sql::expr::{Node, open};
 use sqlite_sql::ops::{BinaryOp, CompareOp};
-use sqlite_sql::query::{Select, SortKey, Step};
+use sqlite_sql::query::{Grouping, Select, SortKey, Step};
 use sqlite_value::keys::Collation;
 use sqlite_value::value::ValueRef;
 
@@ -33,6 +34,8 @@ pub(crate) struct Shape<'a> {
     pub order: &'a [usize],
     /// A parameter, if there is one: at most so many rows are shown.
     pub limit: Option<usize>,
+    /// Whether one row with their number is shown.
+    pub counted: bool,
 }
 
 /// Whether the node at this index is this column.
@@ -169,13 +172,39 @@ fn is_one_table(nodes: &[Node<'_>], steps: &[Step<'_>], from: usize, tree: u32) 
     }
 }
 
+/// Whether the rows are one group, of which their number is taken.
+fn is_count(nodes: &[Node<'_>], group: &Grouping<'_>) -> bool
+    ensures { IsTrue result ↔ (grouping_of nodes.now group.now ≡ all_rows) }
+{
+    let [aggregate] = group.aggregates else {
+        return false;
+    };
+    group.keys.is_empty()
+        && group.collations.is_empty()
+        && aggregate.op == AggregateOp::CountRows
+        && !aggregate.distinct
+        && aggregate.collation == Collation::Binary
+        && is_null(nodes, aggregate.argument)
+        && group.having.is_empty()
+}
+
+/// Whether the rows are counted, or else not grouped.
+fn is_group(nodes: &[Node<'_>], group: &Option<Grouping<'_>>, counted: bool) -> bool
+    ensures { IsTrue result ↔ (option_map (grouping_of nodes.now) group.now ≡ expected_group counted) }
+{
+    match group {
+        Some(group) => counted && is_count(nodes, group),
+        None => !counted,
+    }
+}
+
 /// Whether this is the query of that shape on the table with this tree.
 pub(crate) fn is_query(select: &Select<'_>, tree: u32, shape: &Shape<'_>) -> bool
     ensures { IsTrue result ↔ (query_of select.now ≡ expected_query tree shape.now) }
 {
     is_one_table(select.nodes, select.steps, select.from, tree)
         && are_expected(select.nodes, select.filter, shape.filter)
-        && select.group.is_none()
+        && is_group(select.nodes, &select.group, shape.counted)
         && are_expected(select.nodes, select.project, shape.project)
         && !select.distinct
         && select.collations.is_empty()

@@ -30,6 +30,7 @@ pub mod transactions;
 pub use fault::RecordsError;
 pub use layout::{Declaration, declaration_of};
 pub use records::{
-    Keyed, find_record, list_page, list_records, make_table, put_record, remove_record,
+    Keyed, count_records, find_record, list_page, list_records, make_table, put_record,
+    remove_record,
 };
 pub use scan::{RecordTest, all_pass};

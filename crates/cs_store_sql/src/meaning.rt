@@ -4,9 +4,9 @@
 //! So it reads and writes the rows of that table, whatever else the database declares.
 ghost use Rattle.std.specs.Prelude.{◌≡◌, ◌↔◌, [], true, false, IsTrue, IfOk, MatchOption};
 ghost use Rattle.cs_store_sql.specs.Meaning.{AreStatements, AreWrites, IsMeant};
-ghost use Rattle.cs_store_sql.specs.Statements.{alone, expected_query, find_query, list_query, page_query, scan_query};
+ghost use Rattle.cs_store_sql.specs.Statements.{alone, expected_query, find_query, list_query, count_query, page_query, scan_query};
 ghost use Rattle.cs_store_sql.specs.Statements.{put_command, remove_command, source, source_terms, clause};
-ghost use Rattle.cs_store_sql.specs.Statements.{find_text, list_text, page_text, scan_text};
+ghost use Rattle.cs_store_sql.specs.Statements.{find_text, list_text, count_text, page_text, scan_text};
 ghost use Rattle.cs_store_sql.specs.Statements.{IsPlainStatement, IsStatement, IsSelectOf, IsSelect, IsCreation, Creates};
 
 use crate::expected::{Expected, Shape, are_expected, is_query};
@@ -129,6 +129,7 @@ fn is_clause(alloc: Global, upsert: &Upsert, tree: u32) -> Result<bool, AllocErr
         ],
         order: &[],
         limit: None,
+        counted: false,
     };
     Ok(target.as_slice() == [1, 2].as_slice() && is_program(alloc, program, tree, &shape)?)
 }
@@ -155,6 +156,7 @@ fn is_remove(alloc: Global, command: &Command, index: usize, tree: u32) -> Resul
         project: &[Expected::Column(1, 0)],
         order: &[],
         limit: None,
+        counted: false,
     };
     match command {
         Command::Delete(at, program) => {
@@ -221,6 +223,7 @@ fn finds(alloc: Global, schema: &Schema, tree: u32) -> Result<bool, AllocError>
         project: &[Expected::Column(1, 3)],
         order: &[],
         limit: None,
+        counted: false,
     };
     is_statement(
         alloc,
@@ -242,11 +245,34 @@ fn lists(alloc: Global, schema: &Schema, tree: u32) -> Result<bool, AllocError>
         project: &[Expected::Column(1, 2), Expected::Column(1, 3)],
         order: &[2],
         limit: None,
+        counted: false,
     };
     is_statement(
         alloc,
         schema,
         texts::LIST,
+        1,
+        0,
+        tree,
+        Meant::Select(&shape),
+    )
+}
+
+/// Whether the text that counts the records under a name does so.
+fn counts(alloc: Global, schema: &Schema, tree: u32) -> Result<bool, AllocError>
+    ensures { IfOk result (λ yes. IsTrue yes ↔ IsSelect schema.now count_text 1 (count_query tree)) }
+{
+    let shape = Shape {
+        filter: &[Expected::Equal(1, 0)],
+        project: &[Expected::Column(1, 0)],
+        order: &[],
+        limit: None,
+        counted: true,
+    };
+    is_statement(
+        alloc,
+        schema,
+        texts::COUNT,
         1,
         0,
         tree,
@@ -263,6 +289,7 @@ fn pages(alloc: Global, schema: &Schema, tree: u32) -> Result<bool, AllocError>
         project: &[Expected::Column(1, 2), Expected::Column(1, 3)],
         order: &[2],
         limit: Some(2),
+        counted: false,
     };
     is_statement(
         alloc,
@@ -289,6 +316,7 @@ fn scans(alloc: Global, schema: &Schema, tree: u32) -> Result<bool, AllocError>
         ],
         order: &[0],
         limit: None,
+        counted: false,
     };
     is_statement(
         alloc,
@@ -325,6 +353,7 @@ pub(crate) fn are_statements(
     Ok(
         finds(alloc, schema, tree)?
             && lists(alloc, schema, tree)?
+            && counts(alloc, schema, tree)?
             && pages(alloc, schema, tree)?
             && scans(alloc, schema, tree)?
             && are_writes(alloc, schema, index, tree)?,

@@ -1,11 +1,12 @@
 //! The table of records, one statement at a time: a record has the name of a table, a key and a
 //! value. A call that is refused leaves the database as it was, or takes it back to its last commit.
-ghost use Rattle.std.specs.Prelude.{◌≡◌, ◌<◌, ◌^◌, [], Some, None, option_map, map, IsTrue, IfOk, IfErr, OnOk, OnErr};
+ghost use Rattle.std.specs.Prelude.{◌≡◌, ◌<◌, ◌^◌, ℕ, ◌∷◌, IfSome, [], Some, None, option_map, map, IsTrue, IfOk, IfErr, OnOk, OnErr};
 ghost use Rattle.sqlite.specs.State.{FailsToQuery, HasCleanDisk, IsUnchanged, KeepsCommit, Shown, Survives};
 ghost use Rattle.sqlite.specs.Held.{state};
+ghost use Rattle.sqlite_sql.specs.Aggregate.{count};
 ghost use Rattle.sqlite.specs.Values.{bound};
 ghost use Rattle.cs_store_sql.specs.Failing.{CannotCreate, CannotMake, CannotRead, EndsAs, FailsAt, IsFailure, puts, removes};
-ghost use Rattle.cs_store_sql.specs.Records.{DeclaresRecords, HoldsRecords, Sets, ListsTable, ListsPage};
+ghost use Rattle.cs_store_sql.specs.Records.{DeclaresRecords, HoldsRecords, Sets, ListsTable, ListsPage, Counts};
 ghost use Rattle.cs_store_sql.specs.Records.{records_in, Makes, Rests, GoesOn, KeepsCrash};
 ghost use Rattle.cs_store_sql.specs.Records.{IsQuery, shown_keyed};
 ghost use Rattle.cs_store_sql.specs.Records.{LacksRecords, KeepsOthers, record_rows};
@@ -190,6 +191,39 @@ pub fn list_records<S: Alter>(
 {
     let rows = query_rows(conn, texts::LIST, params![tab])?;
     Ok(keyed_rows(alloc, rows.as_slice())?)
+}
+
+/// The number that the row of a count shows, and none where there may be more: SQL counts no further.
+fn number_in(rows: &[Row]) -> Option<u64>
+    ensures { (n : ℕ) → rows.now ≡ (count n ∷ []) ∷ [] → IfSome result (λ it. it ≡ n) }
+{
+    let [row] = rows else {
+        return None;
+    };
+    match row.get_ref(0) {
+        Ok(ValueRef::Int(number)) if number < i64::MAX => Some(number.unsigned_abs()),
+        _ => None,
+    }
+}
+
+/// The number of the records under a table's name. It is refused as for memory from 2^63 - 1 records on.
+pub fn count_records<S: Alter>(conn: &mut Connection<S>, tab: &str) -> Result<u64, RecordsError>
+    ensures counted { HasCleanDisk (state S.Store conn.new) → HoldsRecords (state S.Store conn.old).now
+        → IfOk result (Counts (records_in (state S.Store conn.old).now) tab.now) }
+    ensures reads { HasCleanDisk (state S.Store conn.new)
+        → OnOk result (IsUnchanged (state S.Store conn.old) (state S.Store conn.new)) }
+    ensures rests { HasCleanDisk (state S.Store conn.new)
+        → OnErr result (Rests (state S.Store conn.old) (state S.Store conn.new)) }
+    ensures failed { HasCleanDisk (state S.Store conn.new)
+        → (IsTrue (state S.Store conn.old).is_open → DeclaresRecords (state S.Store conn.old).now.schema)
+        → IfErr result (IsFailure (CannotRead (state S.Store conn.old) (state S.Store conn.new))) }
+    ensures keeps_crash { KeepsCrash (state S.Store conn.old) (state S.Store conn.new) }
+{
+    let rows = query_rows(conn, texts::COUNT, params![tab])?;
+    match number_in(rows.as_slice()) {
+        Some(number) => Ok(number),
+        None => Err(RecordsError::NoMemory),
+    }
 }
 
 /// The keys and values under a table's name, by key: those whose keys are greater than that one, at most so many.

@@ -4,6 +4,8 @@ pub(crate) const FIND: &str = "SELECT rowb FROM rec WHERE tab = ?1 AND keyb = ?2
 
 pub(crate) const LIST: &str = "SELECT keyb, rowb FROM rec WHERE tab = ?1 ORDER BY keyb";
 
+pub(crate) const COUNT: &str = "SELECT count(*) FROM rec WHERE tab = ?1";
+
 pub(crate) const PAGE: &str =
     "SELECT keyb, rowb FROM rec WHERE tab = ?1 AND keyb > ?2 ORDER BY keyb LIMIT ?3";
 
