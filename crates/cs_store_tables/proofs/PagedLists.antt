@@ -3,8 +3,9 @@ use Rattle.std.proofs.Common.{◌≡◌, ◌≢◌, ◌<◌, ◌&&◌, ◌++◌,
 use Rattle.std.specs.List.{AllByRecursion, take-map}
 use Rattle.std.specs.Ordering.{nat_cmp}
 use Rattle.std.specs.Cmp.Lexicographic.{slice_cmp}
-use Rattle.std.specs.FinMap.{empty, get, entries, entries_sorted, get-entries, find}
+use Rattle.std.specs.FinMap.{empty, get, entries, entries_sorted, get-entries, values, find}
 use Rattle.std.specs.FinMap.Entries.{find-where_key, is_sorted-where_key}
+use Rattle.std.proofs.lemmas.Bool.{cases_Bool}
 use Rattle.sqlite_trees.proofs.ListLemmas.{map-map, all-map, all-filter}
 use Rattle.cs_value.specs.declared.value.OwnedValue.{OwnedValue}
 use Rattle.cs_value.specs.declared.value.OwnedValue.TheVariants.{Int, Text, Blob, Null}
@@ -118,6 +119,36 @@ module _ (records : Records) (state : State) (name : List ℕ) (is : Stores reco
           let each = all-map (IsRowIn table.schema) (λ e. e.1) (take limit those) (all_first _ limit those (all-filter (λ e. IsRowIn table.schema e.1) (λ e. is_after after e.0) (entries table.rows) fit)) in
           subst (λ (r : RowMap). AllByRecursion (IsRowIn schema) (page_in r after limit)) (sym (rows_at_found state name table found))
           (subst (λ (t : SchemaData). AllByRecursion (IsRowIn t) (page_in table.rows after limit)) same each)
+
+-- ---- the same page, of the list of the rows
+
+-- a test of the keys is a test of the values, where each value has its key
+filtered_values : {X : Type 0} (p : List ℕ → Bool) (key_of : X → List ℕ) (es : Entries X) → AllByRecursion (λ e. e.0 ≡ key_of e.1) es → map (λ e. e.1) (kept p es) ≡ filter (λ x. p (key_of x)) (map (λ e. e.1) es)
+filtered_values p key_of [] own = refl
+filtered_values p key_of (e ∷ es) own = elim (cases_Bool (p e.0)) [
+  | inl passes ↦
+      let here : p (key_of e.1) ≡ true = ap p (sym own.0) ∙ passes in
+      rw (passes, here) (ap (λ xs. e.1 ∷ xs) (filtered_values p key_of es own.1))
+  | inr fails ↦
+      let here : p (key_of e.1) ≡ false = ap p (sym own.0) ∙ fails in
+      rw (fails, here) (filtered_values p key_of es own.1)
+]
+
+-- a page has the first of the rows whose keys are after the key
+pub page_of_rows : (state : State) (name : List ℕ) (schema : SchemaData) (after : Option (List ℕ)) (limit : ℕ) → IsState state → schema_at state name ≡ Some schema
+    → page_in (rows_at state name) after limit ≡ take limit (filter (λ row. is_after after (row_key schema.flags row)) (values (rows_at state name)))
+page_of_rows state name schema after limit is has = at (get state name) refl
+  where
+    at : (o : Option TableData) → get state name ≡ o → page_in (rows_at state name) after limit ≡ take limit (filter (λ row. is_after after (row_key schema.flags row)) (values (rows_at state name)))
+    at None none = absurd (let e = sym has ∙ ap (option_map (λ (t : TableData). t.schema)) none in cc)
+    at (Some table) found =
+        let same : table.schema ≡ schema = let e = ap (option_map (λ (t : TableData). t.schema)) (sym found) ∙ has in cc in
+        let own : AllByRecursion (λ e. e.0 ≡ row_key table.schema.flags e.1) (entries table.rows) =
+        each_entry (λ key row. key ≡ row_key table.schema.flags row) (entries table.rows) (entries_sorted table.rows) (λ key row got. ((is name table found).is_table.rows key row (get-entries table.rows key ∙ got)).own) in
+        let page : page_in table.rows after limit ≡ take limit (filter (λ row. is_after after (row_key table.schema.flags row)) (values table.rows)) =
+        sym (take-map (λ e. e.1) limit (kept (is_after after) (entries table.rows))) ∙ ap (take limit) (filtered_values (is_after after) (row_key table.schema.flags) (entries table.rows) own) in
+        subst (λ (r : RowMap). page_in r after limit ≡ take limit (filter (λ row. is_after after (row_key schema.flags row)) (values r))) (sym (rows_at_found state name table found))
+        (subst (λ (t : SchemaData). page_in table.rows after limit ≡ take limit (filter (λ row. is_after after (row_key t.flags row)) (values table.rows))) same page)
 
 -- a table without rows has empty pages
 pub no_page : (after : Option (List ℕ)) (limit : ℕ) → page_in empty after limit ≡ []

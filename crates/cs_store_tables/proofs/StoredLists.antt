@@ -16,7 +16,7 @@ use Rattle.cs_value.specs.State.{SchemaData, RowMap, TableData, State, IsState, 
 use Rattle.cs_value.proofs.KeyedRows.{length-IsKeyedRow}
 use Rattle.cs_value.proofs.Spellings.{row_bytes_same}
 use Rattle.sqlite_rules.proofs.ListLemmas.{all_from}
-use Rattle.cs_store_sql.specs.Records.{Records, ListsTable}
+use Rattle.cs_store_sql.specs.Records.{Records, Counts, ListsTable}
 use Rattle.cs_store_sql.proofs.ListedRows.{find_own}
 use Rattle.cs_store_encoding.specs.Declaration.{declaration_bytes}
 use Rattle.cs_store_encoding.specs.Stored.{version, Stores}
@@ -26,7 +26,7 @@ use Rattle.cs_rows.specs.Faults.{IsResource, IsReadRefusal}
 use Rattle.cs_rows.specs.Rows.{IsRowIn}
 use Rattle.cs_store_tables.specs.Store.{AreNamed, AreStored, RecoversList}
 use Rattle.cs_value.proofs.ListLemmas.{AllByRecursion-push}
-use Rattle.std.proofs.lemmas.List.{map-append}
+use Rattle.std.proofs.lemmas.List.{length-map, map-append}
 use Rattle.cs_rows.proofs.MemoryLemmas.{rows_at_found}
 use Rattle.cs_store_encoding.proofs.StoredLemmas.{row_stored}
 
@@ -128,6 +128,11 @@ rows_spelled records state name listed is some lists =
     ap (map (λ e. e.1)) (listed_of row_bytes (rows_at state name) listed (of_true _ lists.rising) (λ key. lists.each key ∙ row_stored records state name key is some))
     ∙ map-map (λ e. e.1) (each_value row_bytes) (entries (rows_at state name))
     ∙ sym (map-map row_bytes (λ e. e.1) (entries (rows_at state name)))
+
+-- and are as many
+pub rows_counted : (records : Records) (state : State) (name : List ℕ) (n : ℕ) → Stores records state → name ≢ [] → Counts records name n → n ≡ length (values (rows_at state name))
+rows_counted records state name n is some counts =
+    counts.2 ∙ sym (length-map counts.0 (λ e. e.1)) ∙ ap length (rows_spelled records state name counts.0 is some counts.1) ∙ length-map (values (rows_at state name)) row_bytes
 
 -- they are stored as rows of its schema
 pub rows_are_stored : (records : Records) (state : State) (name : List ℕ) (schema : SchemaData) (listed : Entries (List ℕ)) → Stores records state → name ≢ [] → schema_at state name ≡ Some schema

@@ -1,7 +1,7 @@
 //! What is read and written through a store. The table that was looked up last is known: inside a transaction, where
 //! nobody else writes, its schema is not read again. So is the key that was looked up last, where no row has it: a row
 //! that is put there is new, and none is looked for to be replaced.
-ghost use Rattle.std.specs.Prelude.{◌≡◌, ◌⊎◌, ◌<◌, ◌^◌, true, IsTrue, IfOk, IfErr, OnOk, IfSome, None, Some, option_map};
+ghost use Rattle.std.specs.Prelude.{◌≡◌, ◌⊎◌, ◌<◌, ◌^◌, true, IsTrue, IfOk, IfErr, OnOk, IfSome, None, Some, length, option_map};
 ghost use Rattle.std.specs.FinMap as map;
 ghost use Rattle.cs_value.specs.Table.{IsName};
 ghost use Rattle.cs_value.specs.State.{schema_at, row_at, rows_at, with_row, without_row};
@@ -209,6 +209,47 @@ pub fn list_page<S: Alter>(
             }
         },
         None => Ok(Vec::new(alloc)),
+    }
+}
+
+/// The number of the rows of a table, and 0 where no table has the name. A table is known then, if one has the name.
+pub fn count_rows<S: Alter>(
+    conn: &mut Connection<S>,
+    known: &mut Option<KnownTable>,
+    alloc: Global,
+    name: &str,
+) -> Result<u64, StoreError>
+    requires sound { IsSound (state S.Store conn.old) }
+    requires knows { Knows (state S.Store conn.old) known.old }
+    ensures counted { HasCleanDisk (state S.Store conn.new)
+        → IfOk result (λ n. n ≡ length (map.values (rows_at (tables_in (state S.Store conn.old).now) name.now))) }
+    ensures tells { HasCleanDisk (state S.Store conn.new) → OnOk result (option_map (λ t. t.1) known.new
+        ≡ schema_at (tables_in (state S.Store conn.old).now) name.now) }
+    ensures same { HasCleanDisk (state S.Store conn.new) → OnOk result ((state S.Store conn.new).now
+        ≡ (state S.Store conn.old).now) }
+    ensures refused { HasCleanDisk (state S.Store conn.new) → IfErr result IsResource }
+    ensures shut { HasCleanDisk (state S.Store conn.new) → RefusesShut (state S.Store conn.old) IsResource result }
+    ensures caused { HasCleanDisk (state S.Store conn.new)
+        → IfErr result (IsCaused (ReadFails (state S.Store conn.old) (state S.Store conn.new))) }
+    ensures named { IfErr result IsReadRefusal }
+    ensures knows { Knows (state S.Store conn.new) known.new }
+    ensures leads { HasCleanDisk (state S.Store conn.new)
+        → OnOk result (LeadsOn (λ _ _. ⊥) (state S.Store conn.old) (state S.Store conn.new)) }
+    ensures reads { HasCleanDisk (state S.Store conn.new)
+        → OnOk result (IsUnchanged (state S.Store conn.old) (state S.Store conn.new)) }
+    ensures rests { HasCleanDisk (state S.Store conn.new) → Rests (state S.Store conn.old) (state S.Store conn.new) }
+    ensures kept { KeepsStore (state S.Store conn.old) (state S.Store conn.new) }
+{
+    look_up(conn, known, alloc, name)?;
+    match known {
+        Some(_) => match tables::count_rows(conn, name) {
+            Ok(number) => Ok(number),
+            Err(error) => {
+                *known = None;
+                Err(error)
+            }
+        },
+        None => Ok(0),
     }
 }
 

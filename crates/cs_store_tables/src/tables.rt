@@ -2,7 +2,7 @@
 ghost use Rattle.std.specs.FinMap as map;
 ghost use Rattle.cs_rows.specs.declared.fault.StoreError.TheVariants.{DamagedStore as Damaged};
 ghost use Rattle.std.specs.Prelude.{◌≡◌, ◌⊎◌, ◌<◌, ◌^◌, unwrap_or, map as map_list, IsTrue, OnOk, IfOk};
-ghost use Rattle.std.specs.Prelude.{IfErr, IfSome, Option, Some, None, ℕ, List, [], ◌∷◌, false, option_map, string_bytes};
+ghost use Rattle.std.specs.Prelude.{IfErr, IfSome, Option, Some, None, ℕ, List, [], ◌∷◌, false, length, option_map, string_bytes};
 ghost use Rattle.std.specs.List.{AllByRecursion};
 ghost use Rattle.cs_value.specs.Table.{IsName};
 ghost use Rattle.cs_value.specs.declared.value.OwnedValue.{OwnedValue};
@@ -24,7 +24,7 @@ ghost use Rattle.cs_store_tables.specs.Store.{AddsTable, AreNamed, AreStored, Ho
 use crate::refusal::refused;
 use cs_rows::{Schema, StoreError};
 use cs_store_encoding::{read_declaration, read_name, read_row, write_declaration};
-use cs_store_sql::{Keyed, find_record, list_records, put_record, remove_record};
+use cs_store_sql::{Keyed, count_records, find_record, list_records, put_record, remove_record};
 use cs_value::{Key, Row, row_write};
 use sqlite::{Alter, Connection};
 use std::alloc::Global;
@@ -152,6 +152,29 @@ pub fn list_rows<S: Alter>(
 {
     match list_records(conn, alloc, name) {
         Ok(listed) => rows_in(alloc, schema, &listed),
+        Err(error) => Err(refused(error)),
+    }
+}
+
+/// The number of the rows of the table of this name.
+pub fn count_rows<S: Alter>(conn: &mut Connection<S>, name: &str) -> Result<u64, StoreError>
+    ensures counted { (schema : SchemaData) → IsSound (state S.Store conn.old) → HasCleanDisk (state S.Store conn.new)
+        → schema_at (tables_in (state S.Store conn.old).now) name.now ≡ Some schema → IfOk result
+        (λ n. n ≡ length (map.values (rows_at (tables_in (state S.Store conn.old).now) name.now))) }
+    ensures same { HasCleanDisk (state S.Store conn.new) → OnOk result ((state S.Store conn.new).now
+        ≡ (state S.Store conn.old).now) }
+    ensures refused { IfErr result IsResource }
+    ensures caused { IsSound (state S.Store conn.old) → HasCleanDisk (state S.Store conn.new)
+        → IfErr result (IsCaused (ReadFails (state S.Store conn.old) (state S.Store conn.new))) }
+    ensures leads { HasCleanDisk (state S.Store conn.new)
+        → OnOk result (LeadsOn (λ _ _. ⊥) (state S.Store conn.old) (state S.Store conn.new)) }
+    ensures reads { HasCleanDisk (state S.Store conn.new)
+        → OnOk result (IsUnchanged (state S.Store conn.old) (state S.Store conn.new)) }
+    ensures rests { HasCleanDisk (state S.Store conn.new) → Rests (state S.Store conn.old) (state S.Store conn.new) }
+    ensures kept { KeepsStore (state S.Store conn.old) (state S.Store conn.new) }
+{
+    match count_records(conn, name) {
+        Ok(number) => Ok(number),
         Err(error) => Err(refused(error)),
     }
 }
