@@ -27,7 +27,7 @@ use crate::batch::SqlBatch;
 use cs_rows::{Edit, Schema, StoreError, Written, edit_in};
 use cs_store_adoption::adopt;
 use cs_store_sql::{RecordsError, transactions};
-use cs_store_tables::{KnownTable, refused};
+use cs_store_tables::{KnownTable, list_page, refused};
 use cs_value::{Key, Row, is_table_name};
 use sqlite::{Alter, Connection, MemStore};
 use std::alloc::Global;
@@ -349,12 +349,7 @@ impl<S: Alter> Store<S> {
         }
     }
 
-    /// Returns a page of the rows of a table, in the order of the bytes of their keys: at most `limit` rows, from the
-    /// first one or from the one after a key, which need not be there. No other rows are read.
-    ///
-    /// # Errors
-    ///
-    /// `NoTable` if no table has the name, and those of [`tables`](Store::tables).
+    /// Returns a page of the rows of a table, as [`page`](crate::Transaction::page) of a transaction does.
     pub(crate) fn page(
         &mut self,
         alloc: Global,
@@ -384,14 +379,7 @@ impl<S: Alter> Store<S> {
             → Rests (state S.Store self.old) (state S.Store self.new) }
         ensures kept { KeepsStore (state S.Store self.old) (state S.Store self.new) }
     {
-        let listed = cs_store_tables::list_page(
-            &mut self.conn,
-            &mut self.known,
-            alloc,
-            name,
-            after,
-            limit,
-        )?;
+        let listed = list_page(&mut self.conn, &mut self.known, alloc, name, after, limit)?;
         match &self.known {
             Some(_) => Ok(listed),
             None => Err(StoreError::NoTable),

@@ -1,6 +1,6 @@
 //! Transactions that own their store.
 ghost use Rattle.std.specs.Prelude.{◌≡◌, ◌⊎◌, true, false, List, None, Ok, Err, IsTrue, OnOk, OnErr, IfOk, IfErr};
-ghost use Rattle.std.specs.Prelude.{◌<◌, ◌^◌, option_map, IfSome, MatchResult, map as map_list, not, string_bytes};
+ghost use Rattle.std.specs.Prelude.{◌<◌, ◌^◌, length, option_map, IfSome, MatchResult, map as map_list, not, string_bytes};
 ghost use Rattle.std.specs.FinMap as map;
 ghost use Rattle.sqlite.specs.Effect.{Database};
 ghost use Rattle.sqlite.specs.State.{HasCleanDisk, IsUnchanged, Savepoint, Shows, Survives};
@@ -25,7 +25,7 @@ ghost use Rattle.cs_store.specs.Within.{EndsCall, HasBefore, Within};
 use crate::store::Store;
 use cs_rows::{Edit, Rows, Schema, StoreError, Written, edit_in};
 use cs_store_sql::transactions;
-use cs_store_tables::{commit, refused};
+use cs_store_tables::{commit, count_rows, refused};
 use cs_value::{Key, Row, is_table_name};
 use sqlite::{Alter, Connection};
 use std::alloc::Global;
@@ -396,6 +396,40 @@ impl<S: Alter> Transaction<S> {
         ensures kept { KeepsStore (state S.Store self.old) (state S.Store self.new) }
     {
         self.store.page(alloc, name, after, limit)
+    }
+
+    /// Returns the number of the rows of a table. No list of them is made.
+    ///
+    /// # Errors
+    ///
+    /// `NoTable` if no table has the name, and those of [`tables`](Transaction::tables). `NoMemory` also from 2^63 - 1
+    /// rows on.
+    pub fn count(&mut self, alloc: Global, name: &str) -> Result<u64, StoreError>
+        ensures counted { HasCleanDisk (state S.Store self.new) → IfOk result (λ n. n
+            ≡ length (map.values (rows_at (tables_in (state S.Store self.old).now) name.now))) }
+        ensures declared { HasCleanDisk (state S.Store self.new)
+            → OnOk result (IsDeclared (tables_in (state S.Store self.old).now) name.now) }
+        ensures same { HasCleanDisk (state S.Store self.new) → OnOk result ((state S.Store self.new).now
+            ≡ (state S.Store self.old).now) }
+        ensures refused { HasCleanDisk (state S.Store self.new) → IfErr result (λ e. ((e ≡ NoSuchTable)
+            × (schema_at (tables_in (state S.Store self.old).now) name.now ≡ None)) ⊎ IsResource e) }
+        ensures shut { HasCleanDisk (state S.Store self.new)
+            → RefusesShut (state S.Store self.old) IsResource result }
+        ensures caused { HasCleanDisk (state S.Store self.new)
+            → IfErr result (IsCaused (ReadFails (state S.Store self.old) (state S.Store self.new))) }
+        ensures named { IfErr result (λ e. (e ≡ NoSuchTable) ⊎ IsReadRefusal e) }
+        ensures reads { HasCleanDisk (state S.Store self.new) → is_answered result ≡ true
+            → IsUnchanged (state S.Store self.old) (state S.Store self.new) }
+        ensures rests { HasCleanDisk (state S.Store self.new)
+            → Rests (state S.Store self.old) (state S.Store self.new) }
+        ensures kept { KeepsStore (state S.Store self.old) (state S.Store self.new) }
+    {
+        let store = &mut self.store;
+        let number = count_rows(&mut store.conn, &mut store.known, alloc, name)?;
+        match &store.known {
+            Some(_) => Ok(number),
+            None => Err(StoreError::NoTable),
+        }
     }
 
     /// Returns the row of a table under a key, or None if no row has the key.
