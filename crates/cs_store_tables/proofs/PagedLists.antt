@@ -1,5 +1,5 @@
 -- A page of the records under a name is the page of the rows that is stored.
-use Rattle.std.proofs.Common.{◌≡◌, ◌≢◌, ◌<◌, ◌&&◌, ◌++◌, ℕ, zero, suc, List, [], ◌∷◌, map, take, filter, Option, Some, None, Bool, true, false, cond, T, Any, option_map, unwrap_or, inl, inr, refl, sym, ap, subst, ◌∙◌, arith}
+use Rattle.std.proofs.Common.{◌≡◌, ◌≢◌, ◌<◌, ◌++◌, ℕ, zero, suc, List, [], ◌∷◌, map, take, filter, Option, Some, None, Bool, true, false, cond, T, option_map, unwrap_or, inl, inr, refl, sym, ap, subst, ◌∙◌, arith}
 use Rattle.std.specs.List.{AllByRecursion, take-map}
 use Rattle.std.specs.Ordering.{nat_cmp}
 use Rattle.std.specs.Cmp.Lexicographic.{slice_cmp}
@@ -24,7 +24,7 @@ use Rattle.cs_store_encoding.proofs.StoredLemmas.{row_stored}
 use Rattle.cs_store_tables.specs.Pages.{is_after, page_in}
 use Rattle.cs_store_tables.specs.Store.{AreStored}
 use Rattle.cs_store_tables.proofs.ReadLemmas.{row_fits}
-use Rattle.cs_store_tables.proofs.StoredLists.{Entries, sorted, same_lists, of_true, each_value, sorted_values, find_values, each_entry}
+use Rattle.cs_store_tables.proofs.StoredLists.{Entries, same_lists, of_true, each_value, sorted_values, find_values, each_entry}
 
 -- the entries whose keys pass a test
 abbrev kept : {X : Type 0} → (List ℕ → Bool) → Entries X → Entries X
