@@ -3,6 +3,7 @@ pub mod Transacts
 pub mod Turns
 pub mod Within
 pub use Rattle.cs_store_tables.specs.Refusals
+pub use Rattle.cs_store_tables.specs.Pages
 pub use Rattle.cs_store_tables.specs.Store
 pub use Rattle.cs_store_tables.specs.Crash
 pub use Rattle.cs_store_tables.specs.Failing
