@@ -1,0 +1,11 @@
+mod AlongLemmas
+mod ApartLemmas
+mod ChosenLemmas
+mod ComingLemmas
+mod LawLemmas
+mod MarkLemmas
+mod NumberLemmas
+mod OrderLemmas
+mod RehearsingLemmas
+mod SameLemmas
+mod TryLemmas

@@ -1,0 +1,11 @@
+pub mod Found
+pub mod Rehearsing
+pub mod Rehearsal
+pub mod Shown
+pub mod Choosing
+pub mod Laws
+pub mod Along
+pub mod Numbering
+pub mod Order
+pub mod Places
+pub mod Trying
