@@ -1,11 +1,11 @@
 mod ApplyLemmas
-mod CallLemmas
+pub mod CallLemmas
 mod DeclareLemmas
-mod EditLemmas
+pub mod EditLemmas
 mod KeyLemmas
 mod MarkLemmas
 mod PutLemmas
-mod ReadLemmas
+pub mod ReadLemmas
 mod RefusalLemmas
 mod RefusedEdits
 mod WorkLemmas
