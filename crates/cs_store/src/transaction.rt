@@ -124,22 +124,6 @@ impl<S: Alter + Drop> Transaction<S> {
         }
     }
 
-    /// Has no effect. Its contract says that a transaction whose connection is open shows the tables of a state, and
-    /// all but the records as it was committed last. One that has ended shows what was committed last, and one that has
-    /// not is open.
-    pub fn store_law(&self)
-        ensures holds { HasCleanDisk (state S.Store self.now) → IsTrue (state S.Store self.now).is_open
-            → HoldsState (state S.Store self.now).now
-            × KeepsOthers (state S.Store self.now).committed (state S.Store self.now).now }
-        ensures settled { HasCleanDisk (state S.Store self.now) → (state S.Store self.now).in_transaction ≡ false
-            → IsTrue (state S.Store self.now).is_open
-            → (state S.Store self.now).now ≡ (state S.Store self.now).committed }
-        ensures inside { HasCleanDisk (state S.Store self.now) → IsTrue (state S.Store self.now).in_transaction
-            → IsTrue (state S.Store self.now).is_open }
-    {
-        let _ = &self.store.conn;
-    }
-
     /// Marks where the transaction is. [`go_back`](Transaction::go_back) goes back there, and
     /// [`release`](Transaction::release) drops the mark.
     ///
@@ -280,6 +264,22 @@ impl<S: Alter + Drop> Transaction<S> {
 }
 
 impl<S: Alter> Transaction<S> {
+    /// Has no effect. Its contract says that a transaction whose connection is open shows the tables of a state, and
+    /// all but the records as it was committed last. One that has ended shows what was committed last, and one that has
+    /// not is open.
+    pub fn store_law(&self)
+        ensures holds { HasCleanDisk (state S.Store self.now) → IsTrue (state S.Store self.now).is_open
+            → HoldsState (state S.Store self.now).now
+            × KeepsOthers (state S.Store self.now).committed (state S.Store self.now).now }
+        ensures settled { HasCleanDisk (state S.Store self.now) → (state S.Store self.now).in_transaction ≡ false
+            → IsTrue (state S.Store self.now).is_open
+            → (state S.Store self.now).now ≡ (state S.Store self.now).committed }
+        ensures inside { HasCleanDisk (state S.Store self.now) → IsTrue (state S.Store self.now).in_transaction
+            → IsTrue (state S.Store self.now).is_open }
+    {
+        let _ = &self.store.conn;
+    }
+
     /// Returns the names of the tables that the transaction shows, in the order of their bytes.
     ///
     /// # Errors
