@@ -1,5 +1,4 @@
 mod ColumnLemmas
 mod KeyLemmas
 mod NameLemmas
-mod PageLemmas
 mod RefusalLemmas

@@ -21,5 +21,5 @@ pub use columns::{Declaration, columns_of, declaration_of};
 pub use conflicts::change_key;
 pub use key::{key_of_call, key_values};
 pub use names::{name_text, names_of};
-pub use page::{Page, page_of};
+pub use page::Page;
 pub use refusal::{declare_refusal, edit_refusal, read_refusal, store_refusal, table_refusal};

@@ -4,6 +4,7 @@ mod DeclareLemmas
 pub mod EditLemmas
 mod KeyLemmas
 mod MarkLemmas
+mod PageLemmas
 mod PutLemmas
 pub mod ReadLemmas
 mod RefusalLemmas

@@ -136,10 +136,6 @@ value_found {A} {X} tables table value x next found = at (schema_at tables table
     at None is = absurd (true≢false (sym (ap is_ok is)))
     at (Some s) is = ap (λ (r : Result A Refused). next (from_ok value r)) is
 
--- what is made of it
-pub found_made : {A X : Type 0} (tables : State) (table : List ℕ) (value x : A) (make : A → X) → on_table tables table (λ s. Ok value) ≡ Ok x → Ok (make x) ≡ on_table tables table (λ s. Ok (make value))
-found_made tables table value x make found = sym (value_found tables table value x (λ v. Ok (make v)) found)
-
 -- there is no such table
 pub table_missing : {X : Type 0} (tables : State) (table : List ℕ) (why : Refused) (next : SchemaData → Result X Refused) → schema_at tables table ≡ None → (why ≡ of_table 31 table) ⊎ (why ≡ plain_refusal 60)
     → (Err why ≡ on_table tables table next) ⊎ IsErrAnd {T = X} (Err why) IsResource

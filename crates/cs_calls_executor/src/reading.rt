@@ -2,13 +2,13 @@
 ghost use Rattle.std.specs.Prelude.{◌≡◌, map as map_list, Ok, Some, None, option_map, length};
 ghost use Rattle.std.specs.FinMap as map;
 ghost use Rattle.sqlite.specs.Held.{state};
-ghost use Rattle.cs_value.specs.State.{row_at, rows_at};
+ghost use Rattle.cs_value.specs.State.{row_at};
 ghost use Rattle.cs_calls_executor.specs.Answered.{Reads};
 ghost use Rattle.cs_calls_executor.specs.TableCalls.{on_table, table_columns, table_row, table_count, table_page, page_at};
 
 use cs_calls_answers::{Names, Refused, RowList};
 use cs_calls_conversions::{
-    Page, columns_of, key_of_call, names_of, page_of, read_refusal, store_refusal, table_refusal,
+    Page, columns_of, key_of_call, names_of, read_refusal, store_refusal, table_refusal,
 };
 use cs_calls_parts::Columns;
 use cs_rows::Schema;
@@ -45,21 +45,6 @@ pub(crate) fn find_row<S: Alter>(
 {
     match transaction.get(alloc, table.as_str(), key) {
         Ok(row) => Ok(row),
-        Err(error) => Err(read_refusal(alloc, table, error)),
-    }
-}
-
-/// Returns the rows of a table, in the order of the bytes of their keys.
-fn find_rows<S: Alter>(
-    alloc: Global,
-    transaction: &mut Transaction<S>,
-    table: &Text,
-) -> Result<RowList, Refused>
-    ensures { Reads (λ tables. on_table tables table.now (λ _. Ok (map.values (rows_at tables table.now))))
-        (state S.Store transaction.old) (state S.Store transaction.new) result }
-{
-    match transaction.rows(alloc, table.as_str()) {
-        Ok(rows) => Ok(RowList::new(rows)),
         Err(error) => Err(read_refusal(alloc, table, error)),
     }
 }
@@ -123,7 +108,7 @@ pub fn read_row<S: Alter>(
     find_row(alloc, transaction, table, &key)
 }
 
-/// Returns the number of the rows of a table. It reads all of them into memory.
+/// Returns the number of the rows of a table.
 ///
 /// # Errors
 ///
@@ -136,8 +121,10 @@ pub fn count_rows<S: Alter>(
     ensures { Reads (λ tables. table_count tables table.now)
         (state S.Store transaction.old) (state S.Store transaction.new) result }
 {
-    let rows = find_rows(alloc, transaction, table)?;
-    Ok(rows.as_slice().len() as u64)
+    match transaction.count(alloc, table.as_str()) {
+        Ok(number) => Ok(number),
+        Err(error) => Err(read_refusal(alloc, table, error)),
+    }
 }
 
 /// Returns a page of the rows of a table: at most so many, from the first one or from the one after a key.
@@ -145,21 +132,30 @@ fn page_after<S: Alter>(
     alloc: Global,
     transaction: &mut Transaction<S>,
     table: &Text,
-    schema: &Schema,
     after: Option<&Key>,
     limit: u32,
 ) -> Result<Page, Refused>
     ensures { Reads (λ tables. on_table tables table.now
-        (λ _. Ok (page_at tables table.now schema.now (option_map (λ k. k.now) after.entry) limit)))
+        (λ schema. Ok (page_at tables table.now schema (option_map (λ k. k.now) after.entry) limit)))
         (state S.Store transaction.old) (state S.Store transaction.new) result }
 {
-    let rows = find_rows(alloc, transaction, table)?;
-    Ok(page_of(alloc, schema.flags(), rows.as_slice(), after, limit)?)
+    transaction.store_law();
+    // One row more than the page has, if there are others after it.
+    match transaction.page(alloc, table.as_str(), after, u64::from(limit) + 1) {
+        Ok(mut rows) => {
+            let more = rows.len() > limit as usize;
+            rows.truncate(limit as usize);
+            Ok(Page {
+                rows: RowList::new(rows),
+                more,
+            })
+        }
+        Err(error) => Err(read_refusal(alloc, table, error)),
+    }
 }
 
 /// Returns a page of the rows of a table, in the order of the bytes of their keys: at most so many,
-/// from the first one or from the one after a key, which need not be there. It reads all rows of
-/// the table into memory.
+/// from the first one or from the one after a key, which need not be there.
 ///
 /// # Errors
 ///
@@ -174,10 +170,10 @@ pub fn read_page<S: Alter>(
     ensures { Reads (λ tables. table_page tables table.now (option_map (λ r. r.now) after.entry) limit)
         (state S.Store transaction.old) (state S.Store transaction.new) result }
 {
-    let schema = find_schema(alloc, transaction, table)?;
     let Some(values) = after else {
-        return page_after(alloc, transaction, table, &schema, None, limit);
+        return page_after(alloc, transaction, table, None, limit);
     };
+    let schema = find_schema(alloc, transaction, table)?;
     let key = key_of_call(alloc, table, &schema, values)?;
-    page_after(alloc, transaction, table, &schema, Some(&key), limit)
+    page_after(alloc, transaction, table, Some(&key), limit)
 }

@@ -1,7 +1,7 @@
-//! What lies between calls and stores: keys, columns, pages, and the parts of refusals.
+//! What lies between calls and stores: keys, columns, and the parts of refusals.
 
 use cs_calls_answers::Refused;
-use cs_calls_conversions::{columns_of, declaration_of, edit_refusal, key_of_call, page_of};
+use cs_calls_conversions::{columns_of, declaration_of, edit_refusal, key_of_call};
 use cs_calls_parts::read_row;
 use cs_calls_requests::{Call, call_read};
 use cs_rows::{Cause, Edit, Schema, StoreError};
@@ -158,29 +158,5 @@ fn is_no_key(rt: &(impl Abort + AllocGlobal), values: &[u8], parts: Parts) -> bo
 fn refuses_values_of_no_key(rt: HostRuntime) {
     for (at, (values, parts)) in KEYS.iter().enumerate() {
         assert!(rt; is_no_key(&rt, values, *parts), "at {at}");
-    }
-}
-
-/// Returns how many of the rows 'a', 'b' and 'c' are on the page after a key, and whether there are more.
-fn page_size(rt: &(impl Abort + AllocGlobal), after: &[u8], limit: u32) -> (usize, bool) {
-    let mut rows = Vec::new(rt.alloc());
-    for row in [b"\x01\x03\x01a", b"\x01\x03\x01b", b"\x01\x03\x01c"] {
-        rows.push(row_of(rt, row)).expect(rt, "memory");
-    }
-    let after = row_of(rt, after);
-    let after = Key::from_values(rt.alloc(), after.values()).expect(rt, "memory");
-    let page = page_of(rt.alloc(), &[1], &rows, Some(&after), limit).expect(rt, "a page");
-    (page.rows.as_slice().len(), page.more)
-}
-
-#[test]
-fn pages_rows_by_their_keys(rt: HostRuntime) {
-    for (after, limit, size) in [
-        (b"\x01\x03\x00".as_slice(), 2, (2, true)),
-        (b"\x01\x03\x01a".as_slice(), 2, (2, false)),
-        (b"\x01\x03\x01b".as_slice(), 0, (0, true)),
-        (b"\x01\x03\x01c".as_slice(), 2, (0, false)),
-    ] {
-        assert!(rt; page_size(&rt, after, limit) == size, "at most {limit}");
     }
 }

@@ -1,28 +1,21 @@
 -- `reading::read_page`: there is no such table, the values are those of no key, or a page of its rows is read.
-use Rattle.std.proofs.Common.{◌≡◌, ℕ, List, Option, None, Some, option_map, Ok, Err, sym, ◌∙◌}
+use Rattle.std.proofs.Common.{Some, Ok, Err, sym, ◌∙◌}
 use Rattle.std.proofs.lemmas.Result.{err_from_is_err_and}
 use Rattle.sqlite.specs.Held.{state}
-use Rattle.cs_value.specs.declared.value.OwnedValue.{OwnedValue}
-use Rattle.cs_value.specs.State.{State}
-use Rattle.cs_calls_answers.specs.declared.answer.Refused.{Refused}
 use Rattle.cs_calls_executor.specs.TableCalls.{on_table, with_key, table_page, page_at}
 use Rattle.cs_calls_executor.proofs.KeyLemmas.{key_refused, key_named}
 use Rattle.cs_calls_executor.proofs.ReadLemmas.{reads_then, reads_on, reads_refused, schema_found, schema_missing}
 use Rattle.cs_calls_executor.proofs.reading.read_page.Goals as goal
 
--- there is no page of a table that is not there
-page_missing : (tables : State) (table : List ℕ) (why : Refused) (after : Option (List OwnedValue)) (limit : ℕ) → on_table tables table (λ s. Ok s) ≡ Err why → table_page tables table after limit ≡ Err why
-page_missing tables table why None limit missing = schema_missing tables table why (λ s. s) (λ s. Ok (page_at tables table s None limit)) missing
-page_missing tables table why (Some values) limit missing = schema_missing tables table why (λ s. s) (λ s. with_key table s values (λ k. Ok (page_at tables table s (Some k) limit))) missing
-
 pub returns-in_err-schema : goal.returns-in_err-schema
 returns-in_err-schema g c =
     let table = c.args.table.now in
-    let after = option_map (λ r. r.now) c.args.after in
+    let values = c.in-Some.values.now in
+    let limit = c.args.limit in
     let why = c.in_err-schema.field-0.0 in
     let p = err_from_is_err_and c.from_residual.result c.from_residual.ensures.1 in
-    rw (p.1, p.2) (reads_refused (λ tables. on_table tables table (λ s. Ok s)) (λ tables. table_page tables table after c.args.limit) (state g.S.Store c.args.transaction.now) (state g.S.Store c.find_schema.new.transaction) why
-    (λ tables missing. page_missing tables table why after c.args.limit missing) c.in_err-schema.ensures)
+    rw (p.1, p.2, c.in-Some.is) (reads_refused (λ tables. on_table tables table (λ s. Ok s)) (λ tables. table_page tables table (Some values) limit) (state g.S.Store c.args.transaction.now) (state g.S.Store c.find_schema.new.transaction) why
+    (λ tables missing. schema_missing tables table why (λ s. s) (λ s. with_key table s values (λ k. Ok (page_at tables table s (Some k) limit))) missing) c.in_err-schema.ensures)
 
 pub returns-in_err-key : goal.returns-in_err-key
 returns-in_err-key g c =
@@ -41,9 +34,9 @@ returns g c =
     let limit = c.args.limit in
     let schema = c.in_ok-schema.schema in
     let key = c.in_ok-key.key in
-    rw c.in-Some.is (reads_then (λ tables. on_table tables table (λ s. Ok s)) (λ tables. table_page tables table (Some values) limit) (λ tables. on_table tables table (λ s. Ok (page_at tables table schema (Some key) limit)))
+    rw c.in-Some.is (reads_then (λ tables. on_table tables table (λ s. Ok s)) (λ tables. table_page tables table (Some values) limit) (λ tables. on_table tables table (λ s. Ok (page_at tables table s (Some key) limit)))
     (state g.S.Store c.args.transaction.now) (state g.S.Store c.find_schema.new.transaction) (state g.S.Store c.page_after-2.new.transaction) schema c.page_after-2.result
     (λ tables found.
     key_named tables table schema values (λ s k. Ok (page_at tables table s (Some k) limit)) found key c.in_ok-key.ensures.named c.in_ok-key.ensures.key
-    ∙ sym (schema_found tables table schema (λ s. Ok (page_at tables table schema (Some key) limit)) found))
+    ∙ sym (schema_found tables table schema (λ s. Ok (page_at tables table s (Some key) limit)) found))
     c.in_ok-schema.ensures c.page_after-2.ensures)
