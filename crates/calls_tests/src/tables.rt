@@ -50,6 +50,16 @@ const OMITTED: Result<&[u8], u64> = Ok(
     b"\x06\0\0\0\0\0\0\0\0\0\0\0\0\0\0\0\0\x00\x01\x03\x00\x01t\x01\x03\x01p",
 );
 
+/// The conflict of the INSERT of n, where the row has y.
+const FOUND: Result<&[u8], u64> = Ok(
+    b"\x07\x01\0\0\0\0\0\0\0\0\x03\x01t\x01\x03\x01n\x01\x02\x03\x01n\x03\x01y",
+);
+
+/// Reports that the INSERT of n had a conflict, and replaced the row.
+const REPLACED: Result<&[u8], u64> = Ok(
+    b"\x06\0\0\0\0\0\0\0\x01\0\0\0\0\0\0\0\0\x00\x01\x03\x01\x01t\x01\x03\x01n",
+);
+
 /// Calls in turn, and what they are answered.
 const CALLS: &[(&[u8], Result<&[u8], u64>)] = &[
     (b"\x01", Ok(b"\x01\x00")),
@@ -129,6 +139,30 @@ const CALLS: &[(&[u8], Result<&[u8], u64>)] = &[
     (b"\x11\x0eT\x02\x01\x00t\0\x12\0\x03\x01p\x03\x01q", CLEAN),
     (b"\x11\x0eT\x02\x01\x00t\0\x12\0\x03\x01p\x03\x01q", Err(41)),
     (b"\x11\x01P", Err(3)),
+    (b"\x06\x01t", TWO),
+    // The INSERT of p has no conflict, and that of n one, which is repeated with REPLACE.
+    (
+        b"\x10\x0eT\x02\x01\x00t\0\x12\0\x03\x01p\x03\x01q\x00",
+        Ok(b"\x07\x00"),
+    ),
+    (
+        b"\x10\x0eT\x02\x01\x00t\0\x12\0\x03\x01n\x03\x01q\x00",
+        FOUND,
+    ),
+    (
+        b"\x0f\x0eT\x02\x01\x00t\0\x12\0\x03\x01n\x03\x01q\x00\x00",
+        Err(99),
+    ),
+    (
+        b"\x0f\x0eT\x02\x01\x00t\0\x12\0\x03\x01n\x03\x01q\x00\x01\0\0\0\0\0\0\0\0\x03\x01t\x01\x03\x01n\x01\x02\x03\x01n\x03\x01y\x01",
+        REPLACED,
+    ),
+    (
+        b"\x0f\x0eT\x02\x01\x00t\0\x12\0\x03\x01n\x03\x01q\x00\x01\0\0\0\0\0\0\0\0\x03\x01t\x01\x03\x01n\x01\x02\x03\x01n\x03\x01y\x01",
+        Err(99),
+    ),
+    (b"\x0f\x01P\x00\x00", Err(3)),
+    (b"\x10\x01P\x00", Err(3)),
     (b"\x06\x01t", TWO),
     // Rows are in the order of the bytes of their keys.
     (b"\x03\x01o\x02\x01a\x01\x01b\0", DONE),

@@ -4,7 +4,7 @@ use Rattle.sqlite_trees.specs.declared.store.Store.{Ghosts}
 use Rattle.cs_calls_answers.specs.declared.answer.Answer.{Answer}
 use Rattle.cs_calls_answers.specs.declared.answer.Answer.TheVariants as answer
 use Rattle.cs_calls_answers.specs.declared.answer.Refused.{Refused}
-use Rattle.cs_calls_answers.specs.Refusals.{out_of_memory, plain_refusal}
+use Rattle.cs_calls_answers.specs.Refusals.{out_of_memory}
 use Rattle.cs_calls_answers.specs.Spelling.{answer_bytes}
 use Rattle.cs_calls_executor.specs.declared.applying.ApplyCall.TheVariants as apply
 use Rattle.cs_calls_executor.specs.declared.calls.ReadCall.TheVariants as read
@@ -22,7 +22,7 @@ use Rattle.cs_calls_service.specs.declared.sessions.SessionCall.TheVariants as s
 use Rattle.cs_calls_service.specs.Noting.{Outcome}
 use Rattle.cs_calls_service.specs.Service as service
 use Rattle.cs_calls.specs.declared.step.Step.{Step}
-use Rattle.cs_calls.specs.declared.step.Step.TheVariants.{Table, Session, Undo, Begin, Commit, RollBack, Limits, Unserved}
+use Rattle.cs_calls.specs.declared.step.Step.TheVariants.{Table, Session, Undo, Begin, Commit, RollBack, Limits}
 
 -- ---- what a call asks for
 
@@ -41,6 +41,8 @@ step_of call.Begin = Begin
 step_of call.Commit = Commit
 step_of call.RollBack = RollBack
 step_of (call.Apply file noop policy) = Table (Apply (apply.Apply file noop policy))
+step_of (call.ApplyChosen file noop choices) = Table (Apply (apply.Chosen file noop choices))
+step_of (call.Rehearse file noop) = Table (Apply (apply.Rehearse file noop))
 step_of (call.Revert file) = Table (Apply (apply.Revert file))
 step_of call.OpenSession = Session session.Open
 step_of (call.Attach table) = Session (session.Attach table)
@@ -49,8 +51,6 @@ step_of call.IsEmpty = Session session.IsEmpty
 step_of call.Undo = Undo
 step_of call.CloseSession = Session session.Close
 step_of call.Limits = Limits
-step_of (call.ApplyChosen file noop choices) = Unserved
-step_of (call.Rehearse file noop) = Unserved
 
 -- ---- what it does
 
@@ -68,8 +68,6 @@ Takes g old Commit result new = service.Commits g old result new
 Takes g old RollBack result new = service.RollsBack g old result new
 Takes g old Limits (Ok bytes) new = (bytes.items ≡ answer_bytes limits) × (new ≡ old)
 Takes g old Limits (Err why) new = (why ≡ out_of_memory) × (new ≡ old)
-Takes g old Unserved (Ok bytes) new = ⊥
-Takes g old Unserved (Err why) new = (why ≡ plain_refusal 98) × (new ≡ old)
 
 -- ---- what is sent
 

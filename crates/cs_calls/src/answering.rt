@@ -89,7 +89,6 @@ fn take<S: Alter + Drop>(
             let outcome = limits_bytes(alloc);
             (service, outcome)
         }
-        Step::Unserved => (service, Err(Refused::plain(98))),
     }
 }
 

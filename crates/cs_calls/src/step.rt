@@ -23,8 +23,6 @@ pub enum Step {
     RollBack,
     /// Nothing: the limits of the interface are asked for.
     Limits,
-    /// Nothing: the call is not carried out yet.
-    Unserved,
 }
 
 /// Returns what a call asks a service for.
@@ -64,6 +62,18 @@ pub fn step_of(call: Call) -> Step
         Call::Apply { file, noop, policy } => {
             Step::Table(TableCall::Apply(ApplyCall::Apply { file, noop, policy }))
         }
+        Call::ApplyChosen {
+            file,
+            noop,
+            choices,
+        } => Step::Table(TableCall::Apply(ApplyCall::Chosen {
+            file,
+            noop,
+            choices,
+        })),
+        Call::Rehearse { file, noop } => {
+            Step::Table(TableCall::Apply(ApplyCall::Rehearse { file, noop }))
+        }
         Call::Revert { file } => Step::Table(TableCall::Apply(ApplyCall::Revert { file })),
         Call::OpenSession => Step::Session(SessionCall::Open),
         Call::Attach { table } => Step::Session(SessionCall::Attach { table }),
@@ -72,6 +82,5 @@ pub fn step_of(call: Call) -> Step
         Call::Undo => Step::Undo,
         Call::CloseSession => Step::Session(SessionCall::Close),
         Call::Limits => Step::Limits,
-        Call::ApplyChosen { .. } | Call::Rehearse { .. } => Step::Unserved,
     }
 }

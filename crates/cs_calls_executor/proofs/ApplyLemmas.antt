@@ -1,16 +1,13 @@
 -- Applies in a transaction, by the choices of a call.
 use Rattle.std.proofs.Common.{◌≡◌, ◌++◌, ◌∷◌, [], ◌+◌, ◌<◌, inl, inr, true≢false, is_ok, ℕ, List, length, map, take, get_or, Result, Ok, Err, IfOk, IfErr, string_bytes, refl, sym, ap, ◌∙◌}
-use Rattle.std.proofs.lemmas.List.{map-append, take_more}
+use Rattle.std.proofs.lemmas.List.{length_push, map-append, take_more}
 use Rattle.sqlite.specs.State as sqlite
 use Rattle.cs_value.specs.State.{State}
 use Rattle.cs_store.specs.Laws.{keeps_itself, keeps_then, rests_then, unchanged_itself, was_clean}
-use Rattle.cs_store.specs.Within.{Within}
-use Rattle.cs_apply.specs.Crash.{AppliesInto}
-use Rattle.cs_apply.proofs.RevertLemmas.{applies_weaker, refuses_weaker, with_weaker}
+use Rattle.cs_apply.proofs.RevertLemmas.{applies_weaker, refuses_weaker}
 use Rattle.cs_apply_conflict_kinds.specs.declared.conflict.Choice.{Choice}
 use Rattle.cs_apply_conflict_kinds.specs.declared.conflict.Noop.{Noop}
 use Rattle.cs_apply_engine.specs.declared.conflict.Conflict.{Conflict}
-use Rattle.cs_apply_engine.specs.declared.conflict.Met.{Met}
 use Rattle.cs_apply_engine.specs.declared.fault.ApplyFault.{ApplyFault}
 use Rattle.cs_apply_engine.specs.declared.report.Report.{Report}
 use Rattle.cs_apply_engine.specs.declared.running.Direction.{Direction}
@@ -32,61 +29,45 @@ module _ (P Q : Handler) (so : (k : Conflict) (c : Choice) → P k c → Q k c) 
   refused_so (Ok report) refused = tt
   refused_so (Err fault) refused = refuses_weaker P Q so noop file direction old fault refused
 
-  into_so : (left : State) → AppliesInto P noop file direction old left → AppliesInto Q noop file direction old left
-  into_so left it = record {
-    met = it.met;
-    skips = it.skips;
-    writes = it.writes;
-    passed = it.passed;
-    applies = with_weaker P Q so noop file direction old it.met it.skips it.writes it.passed left it.applies;
-  }
-
-  pub within_so : (MayEnd : ApplyFault → Type 0) (before after : sqlite.State) (result : Result Report ApplyFault) → Within (AppliesInto P noop file direction old) MayEnd before after result
-      → Within (AppliesInto Q noop file direction old) MayEnd before after result
-  within_so MayEnd before after (Ok report) it = record {
-    kept = it.kept;
-    made = λ clean. let made = it.made clean in (made.0, into_so _ made.1);
-    back = it.back;
-    ended = it.ended;
-    goes_on = it.goes_on;
-  }
-  within_so MayEnd before after (Err fault) it = record { kept = it.kept; made = λ clean. tt; back = it.back; ended = it.ended; goes_on = it.goes_on }
-
--- ---- the conflicts of a report, one after another
+-- ---- conflicts, one after another
 
 pub none_read : {X : Type 0} (x : X) (old : sqlite.State) → IsOpen old → Reads (λ tables. Ok x) old old (Ok x)
 none_read x old is_open = reads_one (λ tables. Ok x) old old (Ok x) keeps_itself (λ clean. inl (unchanged_itself (is_open clean))) (λ clean. unchanged_itself (is_open clean)) (λ clean. inl refl)
 
-pub more_read : (conflicts : List Met) (old mid new : sqlite.State) (i : ℕ) (met : Met) (items more : List MetConflict) (next : MetConflict) → i < length conflicts → met ≡ get_or conflicts i met → more ≡ items ++ next ∷ []
-    → Reads (λ tables. Ok (map (met_by tables) (take i conflicts))) old mid (Ok items) → Reads (λ tables. Ok (met_by tables met)) mid new (Ok next)
-    → Reads (λ tables. Ok (map (met_by tables) (take (i + 1) conflicts))) old new (Ok more)
-unfolding from_ok
-more_read conflicts old mid new i met items more next within here more_is one two =
-    reads_then (λ tables. Ok (map (met_by tables) (take i conflicts))) (λ tables. Ok (map (met_by tables) (take (i + 1) conflicts))) (λ tables. Ok (items ++ met_by tables met ∷ [])) old mid new items (Ok more)
-    (λ tables found. ap (λ (l : List MetConflict). Ok l) (grown tables (sym (ap (λ (r : Result (List MetConflict) Refused). from_ok items r) found)))) one
-    (reads_on (λ tables. Ok (met_by tables met)) (λ tables. Ok (items ++ met_by tables met ∷ [])) mid new next (Ok more)
-    (λ tables found. inl (ap (λ (l : List MetConflict). Ok l) (more_is ∙ sym (ap (λ (r : Result MetConflict Refused). items ++ from_ok next r ∷ []) found)))) two)
-  where
-    grown : (tables : State) → items ≡ map (met_by tables) (take i conflicts) → map (met_by tables) (take (i + 1) conflicts) ≡ items ++ met_by tables met ∷ []
-    grown tables is = rw (take_more conflicts i met within, ← here) (map-append (met_by tables) (take i conflicts) (met ∷ []) ∙ ap (λ (l : List MetConflict). l ++ met_by tables met ∷ []) (sym is))
+-- each is shown by the tables
+module _ {X Y : Type 0} (show : State → X → Y) (conflicts : List X) (old mid new : sqlite.State) (i : ℕ) (one : X) (items : List Y) (first : Reads (λ tables. Ok (map (show tables) (take i conflicts))) old mid (Ok items)) where
+  module _ (next : Y) (second : Reads (λ tables. Ok (show tables one)) mid new (Ok next)) where
+    pub more_read : (more : List Y) → i < length conflicts → one ≡ get_or conflicts i one → more ≡ items ++ next ∷ [] → Reads (λ tables. Ok (map (show tables) (take (i + 1) conflicts))) old new (Ok more)
+    unfolding from_ok
+    more_read more within here more_is =
+        reads_then (λ tables. Ok (map (show tables) (take i conflicts))) (λ tables. Ok (map (show tables) (take (i + 1) conflicts))) (λ tables. Ok (items ++ show tables one ∷ [])) old mid new items (Ok more)
+        (λ tables found. ap (λ (l : List Y). Ok l) (grown tables (sym (ap (λ (r : Result (List Y) Refused). from_ok items r) found)))) first
+        (reads_on (λ tables. Ok (show tables one)) (λ tables. Ok (items ++ show tables one ∷ [])) mid new next (Ok more)
+        (λ tables found. inl (ap (λ (l : List Y). Ok l) (more_is ∙ sym (ap (λ (r : Result Y Refused). items ++ from_ok next r ∷ []) found)))) second)
+      where
+        grown : (tables : State) → items ≡ map (show tables) (take i conflicts) → map (show tables) (take (i + 1) conflicts) ≡ items ++ show tables one ∷ []
+        grown tables is = rw (take_more conflicts i one within, ← here) (map-append (show tables) (take i conflicts) (one ∷ []) ∙ ap (λ (l : List Y). l ++ show tables one ∷ []) (sym is))
 
--- the next one is not read
-pub failed_read : (conflicts : List Met) (old mid new : sqlite.State) (i : ℕ) (met : Met) (items : List MetConflict) (why : Refused) → Reads (λ tables. Ok (map (met_by tables) (take i conflicts))) old mid (Ok items)
-    → Reads {X = MetConflict} (λ tables. Ok (met_by tables met)) mid new (Err why) → Reads {X = List MetConflict} (λ tables. Ok (map (met_by tables) conflicts)) old new (Err why)
-failed_read conflicts old mid new i met items why one two = record {
-  kept = keeps_then one.kept two.kept;
-  rests = λ clean. rests_then (one.rests (was_clean mid new two.kept.crash clean)) (two.rests clean);
-  given = λ clean. elim (two.given clean) [ inl is ↦ absurd (true≢false (sym (ap is_ok is.0))) | inr resource ↦ inr resource ];
-}
+    -- or there is no memory for it
+    pub unkept_read : Reads {X = List Y} (λ tables. Ok (map (show tables) conflicts)) old new (Err out_of_memory)
+    unkept_read = record {
+      kept = keeps_then first.kept second.kept;
+      rests = λ clean. rests_then (first.rests (was_clean mid new second.kept.crash clean)) (second.rests clean);
+      given = λ clean. inr no_memory;
+    }
 
--- or there is no memory for it
-pub unkept_read : (conflicts : List Met) (old mid new : sqlite.State) (i : ℕ) (met : Met) (items : List MetConflict) (next : MetConflict) → Reads (λ tables. Ok (map (met_by tables) (take i conflicts))) old mid (Ok items)
-    → Reads (λ tables. Ok (met_by tables met)) mid new (Ok next) → Reads {X = List MetConflict} (λ tables. Ok (map (met_by tables) conflicts)) old new (Err out_of_memory)
-unkept_read conflicts old mid new i met items next one two = record {
-  kept = keeps_then one.kept two.kept;
-  rests = λ clean. rests_then (one.rests (was_clean mid new two.kept.crash clean)) (two.rests clean);
-  given = λ clean. inr no_memory;
-}
+  -- the next one is not read
+  pub failed_read : (why : Refused) → Reads {X = Y} (λ tables. Ok (show tables one)) mid new (Err why) → Reads {X = List Y} (λ tables. Ok (map (show tables) conflicts)) old new (Err why)
+  failed_read why second = record {
+    kept = keeps_then first.kept second.kept;
+    rests = λ clean. rests_then (first.rests (was_clean mid new second.kept.crash clean)) (second.rests clean);
+    given = λ clean. elim (second.given clean) [ inl is ↦ absurd (true≢false (sym (ap is_ok is.0))) | inr resource ↦ inr resource ];
+  }
+
+-- their number
+pub more_counted : {X Y : Type 0} (conflicts : List X) (i : ℕ) (one : X) (items more : List Y) (next : Y) → i < length conflicts → more ≡ items ++ next ∷ [] → length items ≡ length (take i conflicts) → length more ≡ length (take (i + 1) conflicts)
+more_counted conflicts i one items more next within is counted =
+    (ap length is ∙ length_push items next) ∙ ap (λ (n : ℕ). n + 1) counted ∙ sym (ap length (take_more conflicts i one within) ∙ length_push (take i conflicts) (get_or conflicts i one))
 
 -- a report is made of its parts
 pub reported_is : (tables : State) (report : Report) (written : ℕ) (skipped : List (List ℕ)) (conflicts : List MetConflict) → written ≡ length report.written.items → skipped ≡ map string_bytes report.skipped.items

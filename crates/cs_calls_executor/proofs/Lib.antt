@@ -9,4 +9,6 @@ mod PutLemmas
 pub mod ReadLemmas
 mod RefusalLemmas
 mod RefusedEdits
+mod RehearsalLemmas
+mod SameLemmas
 mod WorkLemmas

@@ -52,10 +52,10 @@ module _ (call : ApplyCall) (old : sqlite.State) (inside : IsTrue old.in_transac
         → ((before : List Savepoint) (db : Database) → (IsTrue mid.in_transaction → IsMarked before db mid) → HasCleanDisk new → EndsCall (is_ok result) before db mid new) → CarriesOut (Apply call) old new result
     unfolding Made
     marked_apply result one end = record {
-      within = call_within old marked mid is_marked starts one.kept new result (Made result) MayEnd ends (λ clean. both result (one.made clean)) (λ clean. one.goes_on clean (on clean)) end;
+      within = call_within old marked mid is_marked starts one.kept new result (Made result) MayEnd ends (λ clean. both result (one.worked clean (on clean)).made) (λ clean. (one.worked clean (on clean)).goes_on) end;
       refused = λ clean is.
           let was = was_clean mid new ends clean in
-          same (was_clean marked mid one.kept.crash was) result (one.refused was (on was));
+          same (was_clean marked mid one.kept.crash was) result (one.worked was (on was)).refused;
       ended = λ out. is_inside out;
       spelled = one.spelled;
     }

@@ -7,8 +7,11 @@ use Rattle.sqlite.specs.State as sqlite
 use Rattle.sqlite.specs.State.{HasCleanDisk}
 use Rattle.cs_value.specs.State.{State}
 use Rattle.cs_rows.specs.Editing.{Edited}
-use Rattle.cs_store.specs.Store.{KeepsStore, tables_in}
+use Rattle.cs_store.specs.Store.{IsInside, KeepsStore, tables_in}
 use Rattle.cs_store.specs.Within.{Within}
+use Rattle.cs_apply_engine.specs.declared.fault.ApplyFault.{ApplyFault}
+use Rattle.cs_apply_engine.specs.declared.report.Report.{Report}
+use Rattle.cs_apply_engine.specs.Steps.{IsStoreRefusal}
 use Rattle.cs_calls_answers.specs.declared.answer.Answer.{Answer}
 use Rattle.cs_calls_answers.specs.declared.answer.Answer.TheVariants as answer
 use Rattle.cs_calls_answers.specs.declared.answer.Refused.{Refused}
@@ -24,7 +27,7 @@ use Rattle.cs_calls_executor.specs.declared.calls.TableCall.{TableCall}
 use Rattle.cs_calls_executor.specs.declared.calls.TableCall.TheVariants.{Read, Edit, Apply}
 use Rattle.cs_calls_executor.specs.declared.calls.Carried.{Carried}
 use Rattle.cs_calls_executor.specs.Answered.{IsResource, MayEnd, edited_as}
-use Rattle.cs_calls_executor.specs.Applying.{Applies, RefusesApply}
+use Rattle.cs_calls_executor.specs.Applying.{Applies, AppliesAs, RefusesApply, RefusesAs}
 use Rattle.cs_calls_executor.specs.TableCalls.{Declared, table_columns, table_row, table_page, table_count, inserts, updates, deletes, puts}
 
 -- ---- what it is answered
@@ -115,12 +118,30 @@ pub record CarriesOut (call : TableCall) (old new : sqlite.State) (result : Resu
   pub ended : old.in_transaction ≡ false → IsErrAnd result (λ why. why ≡ plain_refusal 97)
   pub spelled : IfOk result (λ carried. AreAnswer carried.bytes)
 
--- The work of an apply, before it goes back to its mark if it is refused: it is answered, or it is refused, and the
--- transaction has ended only for what may end it.
+-- How the file of a call was applied in an open transaction: it is done, or refused. Then the tables are the same, or the
+-- transaction has ended for what may end it.
+pub record Ran (call : ApplyCall) (tables : State) (new : sqlite.State) (outcome : Result Report ApplyFault) : Type 0 where
+  pub made : IfOk outcome (λ report. IsInside new × AppliesAs call tables report (tables_in new.now))
+  pub back : IfErr outcome (λ fault. IsStoreRefusal fault ⊎ (IsTrue new.in_transaction × (tables_in new.now ≡ tables)))
+  pub refused : IfErr outcome (RefusesAs call tables)
+
+-- The work of such a call in an open transaction: it is answered, or it is refused, and the transaction has ended only
+-- for what may end it.
+pub record Worked (call : ApplyCall) (tables : State) (new : sqlite.State) (result : Result Carried Refused) : Type 0 where
+  pub made : IfOk result (λ carried. IsTrue new.in_transaction × IsCarried (Apply call) tables carried (tables_in new.now))
+  pub goes_on : IfErr result (λ why. MayEnd why ⊎ IsTrue new.in_transaction)
+  pub refused : IfErr result (IsRefusal (Apply call) tables)
+
+-- what follows an apply is the work of each call that is applied so
+pub record Finishes (outcome : Result Report ApplyFault) (old new : sqlite.State) (result : Result Carried Refused) : Type 0
+  where
+    pub kept : KeepsStore old new
+    pub worked : HasCleanDisk new → (call : ApplyCall) (tables : State) → Ran call tables old outcome
+        → Worked call tables new result
+    pub spelled : IfOk result (λ carried. AreAnswer carried.bytes)
+
+-- the work of an apply, before it goes back to its mark if it is refused
 pub record Works (call : ApplyCall) (old new : sqlite.State) (result : Result Carried Refused) : Type 0 where
   pub kept : KeepsStore old new
-  pub made : HasCleanDisk new → IfOk result (λ carried. IsTrue new.in_transaction
-      × IsCarried (Apply call) (tables_in old.now) carried (tables_in new.now))
-  pub goes_on : HasCleanDisk new → IsTrue old.in_transaction → IfErr result (λ why. MayEnd why ⊎ IsTrue new.in_transaction)
-  pub refused : HasCleanDisk new → IsTrue old.in_transaction → IfErr result (IsRefusal (Apply call) (tables_in old.now))
+  pub worked : HasCleanDisk new → IsTrue old.in_transaction → Worked call (tables_in old.now) new result
   pub spelled : IfOk result (λ carried. AreAnswer carried.bytes)

@@ -1,25 +1,21 @@
-//! Calls that apply changesets.
-ghost use Rattle.std.specs.Prelude.{◌≡◌, ◌⊎◌, IfOk, IfErr, OnOk, IsTrue, map};
-ghost use Rattle.sqlite.specs.State.{HasCleanDisk};
+//! Calls that apply changesets, or rehearse them.
+ghost use Rattle.std.specs.Prelude.{◌≡◌, IsTrue, OnOk, map};
 ghost use Rattle.sqlite.specs.Held.{state};
-ghost use Rattle.cs_store.specs.Store.{KeepsStore, tables_in};
-ghost use Rattle.cs_store.specs.Within.{Within};
-ghost use Rattle.cs_apply.specs.Crash.{AppliesInto};
-ghost use Rattle.cs_apply_engine.specs.Running.{IsNamed};
-ghost use Rattle.cs_apply_engine.specs.Steps.{IsStoreRefusal};
 ghost use Rattle.cs_calls_answers.specs.declared.answer.Answer.TheVariants.{Report as ReportAnswer};
 ghost use Rattle.cs_calls_conversions.specs.Conflicts.{conflict_key as key_of_conflict, met_by, of_conflict, of_detail, reported_by};
 ghost use Rattle.cs_calls_executor.specs.Answered.{IsOpen, Reads};
-ghost use Rattle.cs_calls_executor.specs.Applying.{AppliesAs, IsToldBy, RefusesAs, chooses, direction_of, file_of, noop_of};
-ghost use Rattle.cs_calls_executor.specs.Calls.{CarriesOut, Works};
+ghost use Rattle.cs_calls_executor.specs.Applying.{IsToldBy};
+ghost use Rattle.cs_calls_executor.specs.Calls.{CarriesOut, Finishes, Works};
 ghost use Rattle.cs_calls_executor.specs.declared.calls.TableCall.TheVariants.{Apply as ApplyOf};
 
 use crate::calls::{Carried, bytes_of};
+use crate::rehearsing::{apply_chosen, rehearse_file};
 use cs_apply::{
     ApplyFault, Conflict, Met, Noop, Policy, Report, apply_in_transaction, revert_in_transaction,
 };
 use cs_calls_answers::{Answer, MetConflict, MetConflicts, Refused, Reported};
 use cs_calls_conversions::{change_key, name_text, names_of, store_refusal};
+use cs_calls_parts::Choices;
 use cs_store::Transaction;
 use cs_value::{Bytes, Fault, Row};
 use sqlite::Alter;
@@ -38,35 +34,21 @@ pub enum ApplyCall {
     Revert {
         file: Bytes,
     },
-}
-
-/// Applies the file of a call.
-fn run<S: Alter + Drop>(
-    alloc: Global,
-    transaction: &mut Transaction<S>,
-    call: &ApplyCall,
-) -> Result<Report, ApplyFault>
-    ensures applied { HasCleanDisk (state S.Store transaction.new) → IfOk result (λ report.
-        AppliesAs call.now (tables_in (state S.Store transaction.old).now) report
-        (tables_in (state S.Store transaction.new).now)) }
-    ensures refused { HasCleanDisk (state S.Store transaction.new) → IfErr result
-        (RefusesAs call.now (tables_in (state S.Store transaction.old).now)) }
-    ensures named { IfErr result IsNamed }
-    ensures within { Within (AppliesInto (chooses call.now) (noop_of call.now) (file_of call.now)
-        (direction_of call.now) (tables_in (state S.Store transaction.old).now)) IsStoreRefusal
-        (state S.Store transaction.old) (state S.Store transaction.new) result }
-{
-    match call {
-        ApplyCall::Apply { file, noop, policy } => {
-            let handler = |conflict: &Conflict| policy.choose(conflict);
-            apply_in_transaction(alloc, transaction, file.as_slice(), *noop, &handler)
-        }
-        ApplyCall::Revert { file } => revert_in_transaction(alloc, transaction, file.as_slice()),
-    }
+    /// Applies the changeset, with a choice for each conflict that a rehearsal finds.
+    Chosen {
+        file: Bytes,
+        noop: Noop,
+        choices: Choices,
+    },
+    /// Lists the conflicts that an apply would have.
+    Rehearse {
+        file: Bytes,
+        noop: Noop,
+    },
 }
 
 /// Returns the values of the key columns of the row that has a conflict.
-fn conflict_key<S: Alter>(
+pub(crate) fn conflict_key<S: Alter>(
     alloc: Global,
     transaction: &mut Transaction<S>,
     conflict: &Conflict,
@@ -185,16 +167,16 @@ fn fault_refusal(fault: ApplyFault) -> Result<Refused, (u64, Conflict)>
     }
 }
 
-/// Applies the file of a call, and returns the bytes of its report and the keys that were written. After a refusal the
-/// transaction may show what was written.
-fn work<S: Alter + Drop>(
+/// Returns the bytes of a report and the keys that were written, or why the apply is refused.
+pub(crate) fn finish<S: Alter>(
     alloc: Global,
     transaction: &mut Transaction<S>,
-    call: &ApplyCall,
+    outcome: Result<Report, ApplyFault>,
 ) -> Result<Carried, Refused>
-    ensures { Works call.now (state S.Store transaction.old) (state S.Store transaction.new) result }
+    ensures { OnOk outcome (IsOpen (state S.Store transaction.old))
+        → Finishes outcome (state S.Store transaction.old) (state S.Store transaction.new) result }
 {
-    match run(alloc, transaction, call) {
+    match outcome {
         Ok(report) => {
             let answer = reported(alloc, transaction, &report)?;
             let bytes = bytes_of(alloc, &answer)?;
@@ -208,6 +190,40 @@ fn work<S: Alter + Drop>(
                 Err(refused)
             }
         },
+    }
+}
+
+/// Applies or rehearses the file of a call, and returns the bytes of its answer and the keys that were written. After a
+/// refusal the transaction may show what was written.
+fn work<S: Alter + Drop>(
+    alloc: Global,
+    transaction: &mut Transaction<S>,
+    call: &ApplyCall,
+) -> Result<Carried, Refused>
+    ensures { Works call.now (state S.Store transaction.old) (state S.Store transaction.new) result }
+{
+    match call {
+        ApplyCall::Apply { file, noop, policy } => {
+            let handler = |conflict: &Conflict| policy.choose(conflict);
+            let outcome = apply_in_transaction(
+                alloc,
+                transaction,
+                file.as_slice(),
+                *noop,
+                &handler,
+            );
+            finish(alloc, transaction, outcome)
+        }
+        ApplyCall::Revert { file } => {
+            let outcome = revert_in_transaction(alloc, transaction, file.as_slice());
+            finish(alloc, transaction, outcome)
+        }
+        ApplyCall::Chosen {
+            file,
+            noop,
+            choices,
+        } => apply_chosen(alloc, transaction, file, *noop, choices),
+        ApplyCall::Rehearse { file, noop } => rehearse_file(alloc, transaction, file, *noop),
     }
 }
 

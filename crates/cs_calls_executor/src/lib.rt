@@ -6,7 +6,8 @@
 //! let found = read_row(alloc, &mut transaction, &table, &key)?;
 //! ```
 //!
-//! `reading` has the calls that read, `editing` those that edit, and `applying` those that apply a changeset file.
+//! `reading` has the calls that read, `editing` those that edit, `applying` those that apply a changeset file, and
+//! `rehearsing` those that list its conflicts first.
 //! `calls` carries out any of them, and returns the bytes of the answer and the keys that were written.
 //! Each refusal has the parts that `CALLS` of the documents lists.
 #![tactic(auto)]
@@ -15,6 +16,7 @@ mod applying;
 mod calls;
 mod editing;
 mod reading;
+mod rehearsing;
 
 pub use applying::ApplyCall;
 pub use calls::{Carried, EditCall, ReadCall, TableCall, bytes_of, carry_out};

@@ -15,17 +15,17 @@ loop-met-init g c is_open = rw c.new-list.ensures.items (none_read _ (state g.S.
 pub returns-in_err-met_conflict : goal.returns-in_err-met_conflict
 returns-in_err-met_conflict g c is_open =
     let p = err_from_is_err_and c.from_residual.result c.from_residual.ensures.1 in
-    rw (p.1, p.2) (failed_read c.args.conflicts.now (state g.S.Store c.args.transaction.now) (state g.S.Store c.loop-met.transaction) (state g.S.Store c.met_conflict.new.transaction) c.loop-met.met-index c.met-item.result c.loop-met.list.items c.in_err-met_conflict.field-0.0 (c.loop-met.invariant is_open) c.in_err-met_conflict.ensures)
+    rw (p.1, p.2) (failed_read met_by c.args.conflicts.now (state g.S.Store c.args.transaction.now) (state g.S.Store c.loop-met.transaction) (state g.S.Store c.met_conflict.new.transaction) c.loop-met.met-index c.met-item.result c.loop-met.list.items (c.loop-met.invariant is_open) c.in_err-met_conflict.field-0.0 c.in_err-met_conflict.ensures)
 
 pub returns-in_err-push : goal.returns-in_err-push
 returns-in_err-push g c is_open =
     let p = err_from_is_err_and c.from_residual-in_err-push.result c.from_residual-in_err-push.ensures.1 in
-    rw (p.1, p.2) (unkept_read c.args.conflicts.now (state g.S.Store c.args.transaction.now) (state g.S.Store c.loop-met.transaction) (state g.S.Store c.met_conflict.new.transaction) c.loop-met.met-index c.met-item.result c.loop-met.list.items c.in_ok-met_conflict.field-0 (c.loop-met.invariant is_open) c.in_ok-met_conflict.ensures)
+    rw (p.1, p.2) (unkept_read met_by c.args.conflicts.now (state g.S.Store c.args.transaction.now) (state g.S.Store c.loop-met.transaction) (state g.S.Store c.met_conflict.new.transaction) c.loop-met.met-index c.met-item.result c.loop-met.list.items (c.loop-met.invariant is_open) c.in_ok-met_conflict.field-0 c.in_ok-met_conflict.ensures)
 
 pub loop-met-preserved : goal.loop-met-preserved
 loop-met-preserved g c is_open =
-    more_read c.args.conflicts.now (state g.S.Store c.args.transaction.now) (state g.S.Store c.loop-met.transaction) (state g.S.Store c.met_conflict.new.transaction) c.loop-met.met-index c.met-item.result c.loop-met.list.items c.push.new.self.items c.in_ok-met_conflict.field-0
-    c.loop-met-test.true c.met-item.is c.in_ok-push.ensures.items (c.loop-met.invariant is_open) c.in_ok-met_conflict.ensures
+    more_read met_by c.args.conflicts.now (state g.S.Store c.args.transaction.now) (state g.S.Store c.loop-met.transaction) (state g.S.Store c.met_conflict.new.transaction) c.loop-met.met-index c.met-item.result c.loop-met.list.items (c.loop-met.invariant is_open) c.in_ok-met_conflict.field-0 c.in_ok-met_conflict.ensures
+    c.push.new.self.items c.loop-met-test.true c.met-item.is c.in_ok-push.ensures.items
 
 pub returns : goal.returns
 returns g c is_open =
