@@ -1,5 +1,6 @@
 -- Rehearsals, and applies with a choice for each conflict of them.
-use Rattle.std.proofs.Common.{◌≡◌, inl, inr, ℕ, List, [], map, Vec, Global, IsTrue, Result, Ok, Err, IfOk, IfErr, refl, sym, ap, subst, ◌∙◌}
+use Rattle.std.proofs.Common.{◌≡◌, inl, inr, ℕ, List, [], length, map, Vec, Global, IsTrue, Result, Ok, Err, IfOk, IfErr, refl, sym, ap, subst, ◌∙◌}
+use Rattle.std.proofs.lemmas.List.{length-map}
 use Rattle.sqlite.specs.Effect.{Database}
 use Rattle.sqlite.specs.State as sqlite
 use Rattle.sqlite.specs.State.{HasCleanDisk}
@@ -88,6 +89,11 @@ refused_works call old mid new e result Makes one refused two =
 
 -- ---- what was found
 
+-- there is a choice for each conflict
+pub same_count : (choices : List ChosenConflict) (list : List Choice) (conflicts : List FoundConflict) (count : ℕ) → list ≡ map (λ c. c.choice) choices → conflicts ≡ map (λ c. c.conflict) choices → length conflicts ≡ count → length list ≡ count
+same_count choices list conflicts count is repeated counted =
+    ap length is ∙ length-map choices (λ (c : ChosenConflict). c.choice) ∙ sym (length-map choices (λ (c : ChosenConflict). c.conflict)) ∙ sym (ap length repeated) ∙ counted
+
 module _ (file : List ℕ) (noop : Noop) (old mid new : sqlite.State) (found : List Found) (quiet : IsQuiet old mid) (finds : HasCleanDisk mid → Finds noop file (tables_in old.now) found)
     (list : List FoundConflict) (two : Reads (λ tables. Ok (map (found_by tables) found)) mid new (Ok list)) where
   pub found_quiet : IsQuiet old new
@@ -144,7 +150,7 @@ module _ (file : List ℕ) (noop : Noop) (old mid new : sqlite.State) (found : L
   }
 
   -- they are for these
-  module _ (choices : List ChosenConflict) (repeated : list ≡ map (λ c. c.conflict) choices) (P : Handler) (so : (k : Conflict) (c : Choice) → P k c → chooses_for found choices k c) (done : sqlite.State) where
+  module _ (choices : List ChosenConflict) (repeated : list ≡ map (λ c. c.conflict) choices) (done : sqlite.State) where
     repeats : HasCleanDisk new → Finds noop file (tables_in new.now) found × AreRepeated (tables_in new.now) found choices
     repeats clean =
         subst (λ (db : Database). Finds noop file (tables_in db) found × AreRepeated (tables_in db) found choices) (sym (found_quiet.shows clean).2) (finds (was clean), sym (listed clean) ∙ repeated)
@@ -159,20 +165,26 @@ module _ (file : List ℕ) (noop : Noop) (old mid new : sqlite.State) (found : L
     refuses clean (Ok report) refused = tt
     refuses clean (Err e) refused = inr (found, (repeats clean).0, (repeats clean).1, refused)
 
-    pub chosen_works : (outcome : Result Report ApplyFault) (Makes : State → Type 0) → Within Makes IsStoreRefusal new done outcome
-        → (HasCleanDisk done → IfOk outcome (λ report. running.Applies P noop file Forward (tables_in new.now) report (tables_in done.now)))
-        → (HasCleanDisk done → IfErr outcome (running.Refuses P noop file Forward (tables_in new.now)))
-        → (last : sqlite.State) (result : Result Carried Refused) → Finishes outcome done last result → Works (Chosen file noop choices) old last result
-    chosen_works outcome Makes one applied refused last result three =
+    pub chosen_works : (P : Handler) (again : List ℕ) → again ≡ file → (outcome : Result Report ApplyFault) (Makes : State → Type 0) → Within Makes IsStoreRefusal new done outcome
+        → (HasCleanDisk done → IfOk outcome (λ report. running.Applies P noop again Forward (tables_in new.now) report (tables_in done.now)))
+        → (HasCleanDisk done → IfErr outcome (running.Refuses P noop again Forward (tables_in new.now)))
+        → (last : sqlite.State) (result : Result Carried Refused) → Finishes outcome done last result → ((k : Conflict) (c : Choice) → P k c → chooses_for found choices k c) → Works (Chosen file noop choices) old last result
+    chosen_works P again is outcome Makes one applied refused last result three so =
         finished_works (Chosen file noop choices) old done outcome last result (keeps_then found_quiet.kept one.kept) ran three
       where
         before : HasCleanDisk done → HasCleanDisk new
         before clean = was_clean new done one.kept.crash clean
+
+        applied_here : HasCleanDisk done → IfOk outcome (λ report. running.Applies P noop file Forward (tables_in new.now) report (tables_in done.now))
+        applied_here clean = subst (λ (f : List ℕ). IfOk outcome (λ report. running.Applies P noop f Forward (tables_in new.now) report (tables_in done.now))) is (applied clean)
+
+        refused_here : HasCleanDisk done → IfErr outcome (running.Refuses P noop file Forward (tables_in new.now))
+        refused_here clean = subst (λ (f : List ℕ). IfErr outcome (running.Refuses P noop f Forward (tables_in new.now))) is (refused clean)
 
         ran : HasCleanDisk done → IsTrue old.in_transaction → Ran (Chosen file noop choices) (tables_in old.now) done outcome
         ran clean inside =
             let shows = found_quiet.shows (before clean) in
             subst (λ (db : Database). Ran (Chosen file noop choices) (tables_in db) done outcome) shows.2
             (within_ran (Chosen file noop choices) new done outcome Makes one
-            (λ still. applies (before still) outcome (applied_so P (chooses_for found choices) so noop file Forward (tables_in new.now) outcome (tables_in done.now) (applied still)))
-            (λ still. refuses (before still) outcome (refused_so P (chooses_for found choices) so noop file Forward (tables_in new.now) outcome (refused still))) clean shows.1)
+            (λ still. applies (before still) outcome (applied_so P (chooses_for found choices) so noop file Forward (tables_in new.now) outcome (tables_in done.now) (applied_here still)))
+            (λ still. refuses (before still) outcome (refused_so P (chooses_for found choices) so noop file Forward (tables_in new.now) outcome (refused_here still))) clean shows.1)
