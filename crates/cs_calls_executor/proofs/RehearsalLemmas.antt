@@ -13,14 +13,17 @@ use Rattle.cs_store.specs.Within.{Within}
 use Rattle.cs_apply.specs.Crash.{AppliesInto}
 use Rattle.cs_apply_conflict_kinds.specs.declared.conflict.Choice.{Choice}
 use Rattle.cs_apply_conflict_kinds.specs.declared.conflict.Noop.{Noop}
+use Rattle.cs_apply_conflict_kinds.specs.Applying.{MetData}
 use Rattle.cs_apply_engine.specs.declared.conflict.Conflict.{Conflict}
 use Rattle.cs_apply_engine.specs.declared.fault.ApplyFault.{ApplyFault}
 use Rattle.cs_apply_engine.specs.declared.report.Report.{Report}
 use Rattle.cs_apply_engine.specs.declared.running.Direction.TheVariants.{Forward}
+use Rattle.cs_apply_engine.specs.Report.{conflict_of}
 use Rattle.cs_apply_engine.specs.Running as running
 use Rattle.cs_apply_engine.specs.Running.{Handler}
 use Rattle.cs_apply_engine.specs.Steps.{IsStoreRefusal}
 use Rattle.cs_apply_rehearsal.specs.declared.found.Found.{Found}
+use Rattle.cs_apply_rehearsal.specs.Choosing.{IsChoiceFor}
 use Rattle.cs_apply_rehearsal.specs.Shown.{ShowsAgain}
 use Rattle.cs_calls_answers.specs.declared.answer.Answer.TheVariants as answer
 use Rattle.cs_calls_answers.specs.declared.answer.Refused.{Refused}
@@ -88,6 +91,10 @@ refused_works call old mid new e result Makes one refused two =
     finished_works call old mid (Err e) new result one.kept (λ clean inside. record { made = tt; back = fault_back old mid e Makes one clean inside; refused = refused clean }) two
 
 -- ---- what was found
+
+-- a choice for a conflict is one for the same conflict
+pub choice_moved : (listed : List MetData) (one other : Conflict) (r v : Choice) → IsChoiceFor listed (conflict_of one) r → one ≡ other → r ≡ v → IsChoiceFor listed (conflict_of other) v
+choice_moved listed one other r v it same is = subst (λ (k : Conflict). IsChoiceFor listed (conflict_of k) v) same (subst (λ (c : Choice). IsChoiceFor listed (conflict_of one) c) is it)
 
 -- there is a choice for each conflict
 pub same_count : (choices : List ChosenConflict) (list : List Choice) (conflicts : List FoundConflict) (count : ℕ) → list ≡ map (λ c. c.choice) choices → conflicts ≡ map (λ c. c.conflict) choices → length conflicts ≡ count → length list ≡ count

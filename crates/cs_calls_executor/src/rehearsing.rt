@@ -1,6 +1,8 @@
 //! Calls that rehearse changesets, or apply them with a choice for each conflict that a rehearsal finds.
 ghost use Rattle.std.specs.Prelude.{◌≡◌, ◌↔◌, IfOk, IsTrue, Ok, length, map};
 ghost use Rattle.sqlite.specs.Held.{state};
+ghost use Rattle.cs_apply_engine.specs.Report.{conflict_of};
+ghost use Rattle.cs_apply_rehearsal.specs.Choosing.{IsChoiceFor};
 ghost use Rattle.cs_calls_executor.specs.Answered.{IsOpen, Reads};
 ghost use Rattle.cs_calls_executor.specs.Applying.{HasSamePlace, found_by};
 ghost use Rattle.cs_calls_executor.specs.Calls.{Works};
@@ -174,7 +176,9 @@ pub(crate) fn apply_chosen<S: Alter + Drop>(
     }
     let list = without_conflicts(alloc, choices.as_slice())?;
     let chosen = Chosen::new(alloc, found, &list)?;
-    let handler = |conflict: &Conflict| chosen.choose(conflict);
+    let handler = |conflict: &Conflict| -> Choice
+        ensures { IsChoiceFor chosen (conflict_of conflict.now) result }
+    { chosen.choose(conflict) };
     let outcome = apply_in_transaction(alloc, transaction, file.as_slice(), noop, &handler);
     finish(alloc, transaction, outcome)
 }

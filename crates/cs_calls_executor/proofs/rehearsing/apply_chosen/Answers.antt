@@ -10,7 +10,7 @@ use Rattle.cs_calls_executor.specs.Answered.{Reads}
 use Rattle.cs_calls_executor.specs.Applying.{found_by}
 use Rattle.cs_calls_executor.specs.declared.applying.ApplyCall.TheVariants.{Chosen}
 use Rattle.cs_calls_executor.proofs.ReadLemmas.{no_memory}
-use Rattle.cs_calls_executor.proofs.RehearsalLemmas.{chosen_works, differs_works, found_quiet, quiet_open, quiet_stopped, refused_works, rehearsed_quiet, same_count, unread_works}
+use Rattle.cs_calls_executor.proofs.RehearsalLemmas.{choice_moved, chosen_works, differs_works, found_quiet, quiet_open, quiet_stopped, refused_works, rehearsed_quiet, same_count, unread_works}
 use Rattle.cs_calls_executor.proofs.WorkLemmas.{open_within}
 use Rattle.cs_calls_executor.proofs.rehearsing.apply_chosen.Goals as goal
 
@@ -80,4 +80,4 @@ returns g c =
     let one : c.as_slice-5.result.now ≡ c.as_slice.result.now = c.as_slice-5.ensures.same ∙ sym c.as_slice.ensures.same in
     rw (← c.as_slice.ensures.same) (chosen_works c.as_slice.result.now c.args.noop old mid new c.in-Ok.found.items quiet c.in-Ok.ensures.rehearsed c.in_ok-conflicts.conflicts two c.args.choices.now repeated done _ c.as_slice-5.result.now one run.result _ run.ensures.within
     run.ensures.applied run.ensures.refused (state g.S.Store c.finish-2.new.transaction) c.finish-2.result
-    (c.finish-2.ensures (open_within _ IsStoreRefusal new done run.result run.ensures.within)) (λ k chosen given. rw list at (c.in_ok-chosen.ensures (conflict_of k) chosen (search rules))))
+    (c.finish-2.ensures (open_within _ IsStoreRefusal new done run.result run.ensures.within)) (λ k chosen given. rw list at (c.in_ok-chosen.ensures (conflict_of k) chosen (first_of (search rules, search (choice_moved, given), search (given, choice_moved, rules))))))
