@@ -5,7 +5,6 @@ use Rattle.cs_calls_answers.specs.declared.answer.Answer.TheVariants.{Refused as
 use Rattle.cs_calls_answers.specs.declared.answer.Refused.{Refused}
 use Rattle.cs_calls_answers.specs.Refusals.{out_of_memory}
 use Rattle.cs_calls_answers.specs.Spelling.{HasCounts, answer_bytes, number_of, parts_of}
-use Rattle.cs_calls_parts.specs.Spelling.{wide_bytes}
 use Rattle.cs_calls_executor.specs.Calls.{IsTooLong, IsUnsent, Spells}
 use Rattle.cs_calls.specs.Steps.{IsSent, limits}
 
@@ -16,7 +15,7 @@ long_sent why long bytes (inr memory) spells = inr (inr (spells.1 ∙ ap (λ (r 
 
 -- the answer to *limits* is short
 limits_short : IsTooLong limits → ⊥
-unfolding HasCounts parts_of wide_bytes number_of
+unfolding HasCounts parts_of number_of
 limits_short (inl uncounted) = uncounted tt
 limits_short (inr long) = omega (arith, long)
 

@@ -2,6 +2,7 @@
 ghost use Rattle.std.specs.Prelude.{◌≡◌, IfOk};
 ghost use Rattle.cs_calls_answers.specs.declared.answer.Answer.TheVariants.{Refused as RefusedAnswer};
 ghost use Rattle.cs_calls_answers.specs.Spelling.{answer_bytes};
+ghost use Rattle.cs_calls.specs.Hosts.{GivesStore};
 
 use crate::answering::answer_call;
 use cs_calls_answers::{Answer, Refused};
@@ -38,7 +39,9 @@ impl<S: Alter + Drop> Host<S> {
     /// # Errors
     ///
     /// Why the store could not be opened.
-    pub fn into_store(self) -> Result<Store<S>, StoreError> {
+    pub fn into_store(self) -> Result<Store<S>, StoreError>
+        ensures { GivesStore S.Store self result }
+    {
         match self {
             Host::Open(Service::AtRest { store, .. }) => Ok(store),
             Host::Open(Service::InTransaction { transaction, .. }) => Ok(transaction.roll_back()),

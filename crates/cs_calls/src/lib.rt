@@ -1,7 +1,7 @@
 //! Stores that answer the bytes of calls.
 //!
 //! ```rust
-//! let mut host = Host::new(Service::new(store));
+//! let mut host = Host::Open(Service::new(store));
 //! let ending = serve(alloc, &mut host, &mut Told::new(input), &mut Told::new(out));
 //! ```
 //!

@@ -25,7 +25,7 @@ use Rattle.cs_session.specs.Merged.{MergedNotes}
 use Rattle.cs_calls_executor.proofs.EditLemmas.{may_end}
 use Rattle.cs_calls_executor.proofs.ReadLemmas.{no_memory}
 use Rattle.cs_calls_service.specs.declared.carrying.Noted.{Noted}
-use Rattle.cs_calls_service.specs.Noting.{CarriesNoted, IsMisfit, IsNotedRefusal, IsSent, Works}
+use Rattle.cs_calls_service.specs.Noting.{CarriesNoted, IsMisfit, IsNotedRefusal, IsSent, Outcome, Works}
 use Rattle.cs_calls_service.specs.Sessions.{of_session_fault}
 
 -- why a session does not note writes, as a refusal
@@ -120,7 +120,7 @@ module _ (call : TableCall) (notes : Notes) (old : sqlite.State) (inside : IsTru
     pub unreleased_refused : (why : Refused) (e : Refused × Notes) → IsResource why → Works call notes marked mid (Err e) → (HasCleanDisk new → IsUndone mid new) → CarriesNoted call notes e.1 old new (Err why)
     unreleased_refused why e short one undone = unreleased why e.1 (Err e) short one.same one undone
 
-    on : {X : Type 0} (result : Result Noted (Refused × Notes)) → Works call notes marked mid result → HasCleanDisk mid → IsTrue marked.in_transaction
+    on : (result : Result Noted (Refused × Notes)) → Works call notes marked mid result → HasCleanDisk mid → IsTrue marked.in_transaction
     on result one clean = (is_marked (was_clean marked mid one.kept.crash clean)).1.mode
 
     -- the call ends as its work does
@@ -137,10 +137,12 @@ module _ (call : TableCall) (notes : Notes) (old : sqlite.State) (inside : IsTru
     pub marked_refused : (e : Refused × Notes) → Works call notes marked mid (Err e)
         → ((before : List Savepoint) (db : Database) → (IsTrue mid.in_transaction → IsMarked before db mid) → HasCleanDisk new → EndsCall false before db mid new) → CarriesNoted call notes e.1 old new (Err e.0)
     marked_refused e one end = record {
-      within = call_within {X = Vec ℕ Global} old marked mid is_marked starts one.kept new (Err e.0) (λ before left. Unit {0}) MayEnd ends (λ clean. tt) (λ clean. one.goes_on clean (on {X = ℕ} (Err e) one clean)) end;
+      within =
+          let failed : Outcome = Err e.0 in
+          call_within old marked mid is_marked starts one.kept new failed (λ before left. Unit {0}) MayEnd ends (λ clean. tt) (λ clean. one.goes_on clean (on (Err e) one clean)) end;
       refused = λ clean is.
           let was = was_clean mid new ends clean in
-          subst (λ (db : Database). IsNotedRefusal call (tables_in db) notes e.0) (is_marked (was_clean marked mid one.kept.crash was)).1.now_is (one.refused was (on {X = ℕ} (Err e) one was));
+          subst (λ (db : Database). IsNotedRefusal call (tables_in db) notes e.0) (is_marked (was_clean marked mid one.kept.crash was)).1.now_is (one.refused was (on (Err e) one was));
       ended = λ out. is_inside out;
       same = one.same;
       spelled = tt;

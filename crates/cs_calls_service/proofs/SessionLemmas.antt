@@ -1,5 +1,5 @@
 -- Calls of the session of a host.
-use Rattle.std.proofs.Common.{◌≡◌, ◌⊎◌, ◌<◌, ◌≤◌, inl, inr, ℕ, List, [], length, map, Vec, Global, IsTrue, false, Option, None, Some, All, Result, Ok, Err, IfOk, IfErr, arith, refl, sym, ap, subst, ◌∙◌}
+use Rattle.std.proofs.Common.{◌≡◌, ◌⊎◌, ◌<◌, ◌≤◌, inl, inr, ℕ, List, [], length, map, Vec, Global, IsTrue, false, Option, None, Some, All, Result, Ok, Err, IfOk, IfErr, arith, length-append, refl, sym, ap, subst, ◌∙◌}
 use Rattle.std.proofs.lemmas.List.Elements.{All-from_recursion}
 use Rattle.sqlite_trees.specs.declared.store.Store.{Ghosts}
 use Rattle.sqlite_trees.specs.Tree.{Trees}
@@ -7,6 +7,9 @@ use Rattle.sqlite.specs.Held.{Held, state}
 use Rattle.sqlite.specs.State as sqlite
 use Rattle.sqlite.specs.State.{HasCleanDisk}
 use Rattle.cs_value.specs.State.{State}
+use Rattle.cs_value.specs.Spelling.{counted}
+use Rattle.cs_value.specs.Varint.{varint}
+use Rattle.cs_value.proofs.Digits.{length-varint_1}
 use Rattle.cs_rows.specs.declared.fault.StoreError.{StoreError}
 use Rattle.cs_rows.specs.declared.fault.StoreError.TheVariants as error
 use Rattle.cs_rows.specs.Faults.{refused_for}
@@ -30,8 +33,8 @@ use Rattle.cs_calls_answers.specs.declared.answer.Answer.{Answer}
 use Rattle.cs_calls_answers.specs.declared.answer.Answer.TheVariants as answer
 use Rattle.cs_calls_answers.specs.declared.answer.Refused.{Refused}
 use Rattle.cs_calls_answers.specs.Refusals.{out_of_memory, plain_refusal}
-use Rattle.cs_calls_answers.specs.Spelling.{HasCounts, MetCounts, answer_bytes, number_of, parts_of, report_bytes}
-use Rattle.cs_calls_parts.specs.Spelling.{list_bytes, wide_bytes}
+use Rattle.cs_calls_answers.specs.Spelling.{HasCounts, MetCounts, answer_bytes, met_bytes, number_of, parts_of, report_bytes}
+use Rattle.cs_calls_parts.specs.Spelling.{list_bytes}
 use Rattle.cs_calls_executor.specs.Answered.{IsResource}
 use Rattle.cs_calls_executor.specs.Calls.{IsTooLong, IsUnsent, Spells}
 use Rattle.cs_calls_executor.proofs.ReadLemmas.{no_memory}
@@ -53,11 +56,19 @@ pub changes_refused : (tables : State) (notes : Notes) (f : SessionFault) (why :
 changes_refused tables notes f why is (inl lacks) = inl (is ∙ ap of_session_fault lacks.0, lacks.1)
 changes_refused tables notes f why is (inr resource) = inr (session_resource f why is resource)
 
+-- no parts have the byte of their count
+none_length : {X : Type 0} (part_bytes : X → List ℕ) → length (list_bytes part_bytes []) ≡ 1
+unfolding list_bytes
+none_length part_bytes = omega (arith, length-append (varint 0) [], length-varint_1 0 (omega arith))
+
 -- the answer of an undo is short
 undone_short : (report : Report) → IsTooLong (undone_answer report) → ⊥
-unfolding HasCounts parts_of report_bytes wide_bytes list_bytes number_of
+unfolding HasCounts parts_of report_bytes number_of
 undone_short report (inl uncounted) = uncounted (record { skipped = omega arith; conflicts = omega arith; mets = All-from_recursion MetCounts [] tt })
-undone_short report (inr long) = omega (arith, long)
+undone_short report (inr long) =
+    let skipped = list_bytes counted [] in
+    let conflicts = list_bytes met_bytes [] in
+    omega (arith, long, length-append skipped conflicts, none_length counted, none_length met_bytes)
 
 pub undone_unsent : (report : Report) (why : Refused) → IsUnsent (undone_answer report) why → why ≡ out_of_memory
 undone_unsent report why (inl long) = absurd (undone_short report long.1)
@@ -159,6 +170,11 @@ module _ (call : SessionCall) (session : Option Notes) (old : sqlite.State) wher
   }
   unspelled_session after given why answers (inr memory) = unsent_session why (subst IsResource (sym memory) no_memory)
 
+  -- what is answered is sent, or not, and the session stays
+  pub sent_session : (given : Answer) (result : Result (Vec ℕ Global) Refused) → ((tables : State) → Answers call tables session given session) → IfOk result (Spells given) → IfErr result (IsUnsent given) → CarriesSession call session session old old result
+  sent_session given (Ok bytes) answers spells unsent = answered_session session given bytes answers spells
+  sent_session given (Err why) answers spells unsent = unspelled_session session given why answers unsent
+
 -- ---- a table is attached
 
 module _ (table : List ℕ) (notes : Notes) (old new : sqlite.State) (kept : KeepsStore old new) where
@@ -215,16 +231,6 @@ module _ (notes : Notes) (old new : sqlite.State) (crash : KeepsCrash old new) (
   }
 
   module _ (file : List ℕ) (is_file : HasCleanDisk new → file ≡ file_bytes (recorded_changes notes (tables_in old.now))) where
-    pub long_session : 2147483647 < length file → CarriesSession Changeset (Some notes) (Some notes) old new (Err (plain_refusal 94))
-    long_session long = record {
-      crash = crash;
-      content = λ clean out settled. kept clean;
-      answered = λ clean. tt;
-      refused = λ clean. inr (inl (inr (notes, refl, subst (λ (bytes : List ℕ). 2147483647 < length bytes) (is_file clean) long), refl));
-      same = refl;
-      spelled = tt;
-    }
-
     module _ (has : HasCleanDisk new → HasTables (tables_in old.now) notes) where
       answers : HasCleanDisk new → Answers Changeset (tables_in old.now) (Some notes) (answer.Changeset file) (Some notes)
       answers clean = (ap answer.Changeset (is_file clean), has clean, refl)

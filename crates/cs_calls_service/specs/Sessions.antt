@@ -71,7 +71,8 @@ Refuses call tables None why = why ≡ plain_refusal 64
 abbrev pub HasLongAnswer : SessionCall → State → Option Notes → Type 0
 HasLongAnswer call tables session =
     ((given : Answer) × (after : Option Notes) × Answers call tables session given after × IsTooLong given)
-    ⊎ ((notes : Notes) × (session ≡ Some notes) × (2147483647 < length (file_bytes (recorded_changes notes tables))))
+    ⊎ ((call ≡ Changeset) × ((notes : Notes) × (session ≡ Some notes) × HasTables tables notes
+    × (2147483647 < length (file_bytes (recorded_changes notes tables)))))
 
 -- why a call of the session is refused: by its definition, since its answer is too long, for memory, or by the database
 abbrev pub IsRefusal : SessionCall → State → Option Notes → Refused → Type 0

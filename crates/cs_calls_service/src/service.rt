@@ -260,7 +260,8 @@ impl<S: Alter + Drop> Service<S> {
     /// 95 TransactionOpen while a transaction is open. 65 SessionOpen if one is open that is to be opened, and 64
     /// NoSession if none is open otherwise. 50 AlreadyAttached and 31 NoTable for a table that is to be attached. 51
     /// WrongStore for the changeset if a table is not there as it was attached, and 94 FrameTooLong if no answer holds
-    /// it. 38 StoreFault if the database refuses, and 60 NoMemory if out of memory. Nothing has changed then.
+    /// it. 37 DamagedStore if what is stored is damaged, 38 StoreFault if the database refuses, and 60 NoMemory if out
+    /// of memory. Nothing has changed then.
     pub fn carry_out_in_session(
         self,
         alloc: Global,
@@ -281,8 +282,9 @@ impl<S: Alter + Drop> Service<S> {
     /// # Errors
     ///
     /// 95 TransactionOpen while a transaction is open, and 64 NoSession if no session is. 51 WrongStore if a table is
-    /// not there as it was attached. 38 StoreFault if the database refuses, and 60 NoMemory if out of memory. Nothing
-    /// has changed then. If the disk fails within the commit, the file has the tables from before or those after it.
+    /// not there as it was attached. 37 DamagedStore if what is stored is damaged, 38 StoreFault if the database refuses,
+    /// and 60 NoMemory if out of memory. Nothing has changed then. If the disk fails within the commit, the file has the
+    /// tables from before or those after it.
     pub fn undo(self, alloc: Global) -> (Service<S>, Result<Vec<u8>, Refused>)
         ensures { Undoes S.Store self result.1 result.0 }
     {

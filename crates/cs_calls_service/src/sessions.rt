@@ -79,18 +79,26 @@ fn carry_in_session<S: Alter>(
     ensures { CarriesSession call.now (Some session) result.0
         (state S.Store store.old) (state S.Store store.new) result.1 }
 {
-    let mut session = session;
-    let result = match call {
-        SessionCall::Open => Err(Refused::plain(65)),
-        SessionCall::Attach { table } => attach(alloc, store, &mut session, table),
-        SessionCall::Changeset => changeset(alloc, store, &session),
-        SessionCall::IsEmpty => bytes_of(alloc, &Answer::Flag(session.is_empty())),
+    match call {
+        SessionCall::Open => (Some(session), Err(Refused::plain(65))),
+        SessionCall::Attach { table } => {
+            let mut session = session;
+            let result = attach(alloc, store, &mut session, table);
+            (Some(session), result)
+        }
+        SessionCall::Changeset => {
+            let result = changeset(alloc, store, &session);
+            (Some(session), result)
+        }
+        SessionCall::IsEmpty => {
+            let result = bytes_of(alloc, &Answer::Flag(session.is_empty()));
+            (Some(session), result)
+        }
         SessionCall::Close => match bytes_of(alloc, &Answer::Done) {
-            Ok(done) => return (None, Ok(done)),
-            Err(why) => Err(why),
+            Ok(done) => (None, Ok(done)),
+            Err(why) => (Some(session), Err(why)),
         },
-    };
-    (Some(session), result)
+    }
 }
 
 /// Carries out a call of the session.

@@ -8,10 +8,10 @@ use Rattle.cs_calls_service.proofs.service.Service.commit.Goals as goal
 
 pub returns : goal.returns
 returns g c =
-    let it = c.commit_noted in
+    let it = c.commit_noted-store in
     let session = c.in-InTransaction.session in
     rw c.in-InTransaction.is (
       it.result.1,
-      subst (λ (notes : Notes). EndsNoted notes c.in-InTransaction.written it.result.1 (state g.S.Store c.in-InTransaction.transaction) (state g.S.Store it.result.0) it.result.2) c.opened.ensures.notes it.ensures,
-      c.if_open.ensures ∙ if_open_is session c.opened.result.1 it.result.1 c.opened.ensures.is_open,
+      subst (λ (notes : Notes). EndsNoted notes c.in-InTransaction.written it.result.1 (state g.S.Store c.in-InTransaction.transaction) (state g.S.Store it.result.0) it.result.2) c.opened-session.ensures.notes it.ensures,
+      c.if_open-session.ensures ∙ if_open_is session c.opened-session.result.1 it.result.1 c.opened-session.ensures.is_open,
     )
