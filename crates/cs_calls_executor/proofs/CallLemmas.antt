@@ -105,7 +105,7 @@ module _ (old new : sqlite.State) (settled : HasCleanDisk old → old.in_transac
         made = λ clean.
             let it = is_given clean in (
               record { is_open = it.1.0.is_open; inside = subst IsTrue (sym it.1.0.mode) inside },
-              record { given = given; answers = (it.0, ap (λ (db : Database). tables_in db) it.1.0.now_is, ap (map written_of) none); counts = sent.0; sent = sent.1 },
+              record { given = given; answers = (it.0, ap (λ (db : Database). tables_in db) it.1.0.now_is, ap (map written_of) none); fits = sent.0; sent = sent.1 },
             );
         back = λ clean. tt;
         ended = λ clean. tt;
@@ -135,7 +135,7 @@ module _ (old new : sqlite.State) (settled : HasCleanDisk old → old.in_transac
   edit_made_carries call written bytes sent one = record {
     within = record {
       kept = one.within.kept;
-      made = λ clean. ((one.within.made clean).0, record { given = Done; answers = (refl, (one.within.made clean).1); counts = sent.0; sent = sent.1 });
+      made = λ clean. ((one.within.made clean).0, record { given = Done; answers = (refl, (one.within.made clean).1); fits = sent.0; sent = sent.1 });
       back = λ clean. tt;
       ended = λ clean. tt;
       goes_on = λ clean inside. tt;

@@ -124,7 +124,7 @@ module _ (file : List ℕ) (noop : Noop) (old mid new : sqlite.State) (found : L
   rehearsed_works bytes written none sent = record {
     kept = found_quiet.kept;
     worked = λ clean inside. record {
-      made = ((found_quiet.shows clean).1, record { given = answer.Conflicts list; answers = answers clean written none; counts = sent.0; sent = sent.1 });
+      made = ((found_quiet.shows clean).1, record { given = answer.Conflicts list; answers = answers clean written none; fits = sent.0; sent = sent.1 });
       goes_on = tt;
       refused = tt;
     };

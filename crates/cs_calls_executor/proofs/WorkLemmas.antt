@@ -156,7 +156,7 @@ module _ (old new : sqlite.State) where
     reported_finishes bytes sent = record {
       kept = two.kept;
       worked = λ clean call tables ran. record {
-        made = (inside_new clean call tables ran, record { given = given; answers = answers clean call tables ran; counts = sent.0; sent = sent.1 });
+        made = (inside_new clean call tables ran, record { given = given; answers = answers clean call tables ran; fits = sent.0; sent = sent.1 });
         goes_on = tt;
         refused = tt;
       };

@@ -1,5 +1,5 @@
 -- What a call on the tables of a store does: it reads or edits them, or applies a changeset file.
-use Rattle.std.specs.Prelude.{◌≡◌, ◌⊎◌, ◌<◌, ℕ, length, IsTrue, false, List, [], Result, Ok, Err, IfOk, IfErr, IsErrAnd}
+use Rattle.std.specs.Prelude.{◌≡◌, ◌⊎◌, ◌<◌, ◌≤◌, ℕ, length, IsTrue, false, List, [], Result, Ok, Err, IfOk, IfErr, IsErrAnd}
 use Rattle.std.specs.FinMap as map
 use Rattle.std.specs.declared.alloc.Global.{Global}
 use Rattle.std.specs.declared.vec.Vec.{Vec}
@@ -74,9 +74,13 @@ Refuses (Apply call) tables why = RefusesApply call tables why
 
 -- ---- what it does
 
--- the bytes of an answer
+-- a frame can hold it: its lists have counts, and it has not too many bytes
+abbrev pub FitsFrame : Answer → Type 0
+FitsFrame given = HasCounts given × (length (answer_bytes given) ≤ 4294967295)
+
+-- the bytes of an answer that a frame can hold
 abbrev pub Spells : Answer → Vec ℕ Global → Type 0
-Spells given bytes = HasCounts given × (bytes.items ≡ answer_bytes given)
+Spells given bytes = FitsFrame given × (bytes.items ≡ answer_bytes given)
 
 -- no frame can hold it: a list of it has no count, or it has too many bytes
 abbrev pub IsTooLong : Answer → Type 0
@@ -90,7 +94,7 @@ IsUnsent given why = ((why ≡ plain_refusal 94) × IsTooLong given) ⊎ (why �
 pub record Sends (call : TableCall) (tables : State) (bytes : List ℕ) (made : Edited) : Type 0 where
   pub given : Answer
   pub answers : Answers call tables given made
-  pub counts : HasCounts given
+  pub fits : FitsFrame given
   pub sent : bytes ≡ answer_bytes given
 
 -- its answer is too long
