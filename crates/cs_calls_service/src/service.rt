@@ -282,9 +282,9 @@ impl<S: Alter + Drop> Service<S> {
     /// # Errors
     ///
     /// 95 TransactionOpen while a transaction is open, and 64 NoSession if no session is. 51 WrongStore if a table is
-    /// not there as it was attached. 37 DamagedStore if what is stored is damaged, 38 StoreFault if the database refuses,
-    /// and 60 NoMemory if out of memory. Nothing has changed then. If the disk fails within the commit, the file has the
-    /// tables from before or those after it.
+    /// not there as it was attached. 37 DamagedStore if what is stored is damaged, 38 StoreFault if the database
+    /// refuses, and 60 NoMemory if out of memory. Nothing has changed then. If the disk fails within the commit, the
+    /// file has the tables from before or those after it.
     pub fn undo(self, alloc: Global) -> (Service<S>, Result<Vec<u8>, Refused>)
         ensures { Undoes S.Store self result.1 result.0 }
     {
