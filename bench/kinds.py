@@ -62,18 +62,13 @@ RECORDS = "the file is checked page by page and index by index, and then each re
 OPENS = "the store is opened first (`opening a store`), and each row is a record of one table"
 ON_KIT = OPENS + "; the kit copies a blob five times"
 IN_FILES = "the store is in files in memory, with a log, and each row is a record of one table"
-SENDS = "each row is a line to the program, another process, and each answer is parsed"
+SENDS = "each row is a call to the program, another process"
 RECORDED = SENDS + "; SQLite's side has no session"
 LISTS = "the kit lists the rows of a table as a store is opened, caches pages, and copies rows"
-ROWS = "the program lists the records, and then their rows, before it prints the first row"
 NOTES = "the session keeps a copy of each key; SQLite's side has no session"
 OWNED = (
     "each row and each key of the changeset is allocated by itself before its file is written; "
     "the session keeps a copy of each key"
-)
-OBJECTS = (
-    "Python keeps the fields of all rows as objects, and their changeset as a line, until it is "
-    "applied"
 )
 UNKNOWN = "no reason is known"
 
@@ -148,8 +143,10 @@ KINDS = (
     script(" with an undo, in memory", ":memory:", "undo", ""),
     store("insert", "insert`", "insert", SENDS),
     store("insert_in_session", "insert` in a session", "insert", RECORDED, NOTES),
-    store("insert_many", "insert_many`", "insert_many", SENDS, OBJECTS),
-    store("rows", "rows`", "rows", "the store is opened first; " + SENDS, ROWS, state="full"),
+    store("insert_in_transaction", "insert` in a transaction", "insert_in_transaction", SENDS),
+    store("insert_many", "insert_many`", "insert_many", SENDS),
+    store("rows", "rows`", "rows", OPENS + ", which another process reads", state="full"),
+    store("get", "get`", "get", OPENS + ", which another process reads", state="full"),
     look("changes", theirs="./package sqlite changes file"),
     look("Builder"),
     look("write_json"),

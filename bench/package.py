@@ -4,7 +4,7 @@
 usage: bench/package.py ours|sqlite WHAT PATH [ROWS]
 
 PATH is a changeset or its JSON, or else a store and a database. Each row is inserted in a
-transaction of its own, but for `insert_many`.
+transaction of its own, but for `insert_in_transaction` and `insert_many`.
 """
 
 from __future__ import annotations
@@ -64,8 +64,17 @@ def insert_in_session(path: pathlib.Path, count: int) -> None:
                 store.insert("t", *row)
 
 
+def insert_in_transaction(path: pathlib.Path, count: int) -> None:
+    """Insert rows one by one in one transaction."""
+    with vollikash.open(path) as store:
+        store.create("t", ["a", "b"], key=["a"])
+        with store.transaction():
+            for row in rows(count):
+                store.insert("t", *row)
+
+
 def insert_many(path: pathlib.Path, count: int) -> None:
-    """Insert all rows in one transaction."""
+    """Insert all rows by one call."""
     with vollikash.open(path) as store:
         store.create("t", ["a", "b"], key=["a"])
         store.insert_many("t", rows(count))
@@ -75,6 +84,13 @@ def read_rows(path: pathlib.Path, count: int) -> None:
     """Read all rows of a store."""
     with vollikash.open(path) as store:
         exhaust(store.rows("t"))
+
+
+def get(path: pathlib.Path, count: int) -> None:
+    """Read each row of a store by its key."""
+    with vollikash.open(path) as store:
+        for key in range(count):
+            store.get("t", key)
 
 
 @contextlib.contextmanager
@@ -93,8 +109,17 @@ def sqlite_insert(path: pathlib.Path, count: int) -> None:
             base.execute("INSERT INTO t VALUES(?, ?)", row)
 
 
+def sqlite_insert_in_transaction(path: pathlib.Path, count: int) -> None:
+    """Insert them one by one in one transaction."""
+    with database(path) as base:
+        base.execute("BEGIN")
+        for row in rows(count):
+            base.execute("INSERT INTO t VALUES(?, ?)", row)
+        base.execute("COMMIT")
+
+
 def sqlite_insert_many(path: pathlib.Path, count: int) -> None:
-    """Insert all of them in one transaction."""
+    """Insert all of them by one call."""
     with database(path) as base:
         base.execute("BEGIN")
         base.executemany("INSERT INTO t VALUES(?, ?)", rows(count))
@@ -107,6 +132,13 @@ def sqlite_rows(path: pathlib.Path, count: int) -> None:
         exhaust(base.execute("SELECT * FROM t"))
 
 
+def sqlite_get(path: pathlib.Path, count: int) -> None:
+    """Read each row of a database by its key."""
+    with database(path) as base:
+        for key in range(count):
+            base.execute("SELECT * FROM t WHERE a = ?", (key,)).fetchone()
+
+
 WORKS: dict[tuple[str, str], Callable[[pathlib.Path, int], None]] = {
     ("ours", "changes"): lambda path, count: exhaust(vollikash.changes(path.read_bytes())),
     ("sqlite", "changes"): lambda path, count: exhaust(
@@ -117,11 +149,15 @@ WORKS: dict[tuple[str, str], Callable[[pathlib.Path, int], None]] = {
     ("ours", "read_json"): lambda path, count: exhaust(vollikash.read_json(path.open())),
     ("ours", "insert"): insert,
     ("ours", "insert_in_session"): insert_in_session,
+    ("ours", "insert_in_transaction"): insert_in_transaction,
     ("ours", "insert_many"): insert_many,
     ("ours", "rows"): read_rows,
+    ("ours", "get"): get,
     ("sqlite", "insert"): sqlite_insert,
+    ("sqlite", "insert_in_transaction"): sqlite_insert_in_transaction,
     ("sqlite", "insert_many"): sqlite_insert_many,
     ("sqlite", "rows"): sqlite_rows,
+    ("sqlite", "get"): sqlite_get,
 }
 
 if __name__ == "__main__":

@@ -1,5 +1,5 @@
 #!/usr/bin/env python3
-"""Makes a release of what is built: an archive with the program and the C library, and a wheel.
+"""Makes a release of what is built: an archive with the programs and the C library, and a wheel.
 
 usage: release/dist.py [FOLDER]
 
@@ -25,12 +25,14 @@ VERSION = (TOP / "VERSION").read_text().strip()
 NAME = f"vollikash-{VERSION}-linux-x86_64"
 C = TOP / "bindings/c"
 PROGRAM = TOP / "crates/changeset/out/changeset"
+CALLS = TOP / "crates/changeset_calls/out/changeset_calls"
 ARCHIVE = C / "out/libvollikash.a"
 SHARED = C / f"out/libvollikash.so.{VERSION}"
 
 # What builds what a release is made of, if the gate has not.
 BUILDERS = {
     PROGRAM: "`rt run` in crates/changeset",
+    CALLS: "`rt run` in crates/changeset_calls",
     ARCHIVE: "`make -C bindings/c`",
     SHARED: "`make -C bindings/c`",
 }
@@ -100,7 +102,10 @@ def pkg_config():
 
 def files_of_archive():
     """Return each file of the archive by its name: its bytes, and whether it can be executed."""
-    paths = {"bin/changeset": PROGRAM, "lib/libvollikash.a": ARCHIVE, f"lib/{SHARED.name}": SHARED}
+    paths = {
+        "bin/changeset": PROGRAM, "bin/changeset-calls": CALLS, "lib/libvollikash.a": ARCHIVE,
+        f"lib/{SHARED.name}": SHARED,
+    }
     for folder, pattern in INSTALLED.items():
         paths.update({f"{folder}/{path.name}": path for path in TOP.glob(pattern)})
     for path in (found for pattern in DOCUMENTS for found in TOP.glob(pattern)):

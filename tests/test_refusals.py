@@ -10,6 +10,8 @@ import random
 import tempfile
 import unittest
 
+from support.call_trials import RUNS, HostCalls
+from support.calls import CALLS_PROGRAM
 from support.program import TOP, TRIES_ALL, main
 from support.trials import (
     CALLS, COMMANDS, SCRIPTS, Calls, Command, MemoryScript, Script, build_shim,
@@ -73,6 +75,15 @@ class MemoryTest(unittest.TestCase):
         there.
         """
         self.expect_ends(Calls((TOP / "crates/calls/args").read_text().split()))
+
+    @unittest.skipUnless(CALLS_PROGRAM.exists(), "the program changeset-calls is not built")
+    def test_calls_of_a_host(self):
+        """Each call is answered as with memory, or refused and passed over, or its transaction has
+        ended.
+        """
+        for what, asked in RUNS.items():
+            with self.subTest(what):
+                self.expect_ends(HostCalls(asked))
 
 
 if __name__ == "__main__":

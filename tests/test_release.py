@@ -43,9 +43,9 @@ needs_release = unittest.skipUnless(IS_BUILT and PYTHON, "the program, the libra
 
 # What the archive has, documents aside.
 INSTALLED = {
-    "SHA256SUMS", "bin/changeset", "include/vollikash.h", "lib/libvollikash.a", "lib/libvollikash.so",
+    "SHA256SUMS", "bin/changeset", "bin/changeset-calls", "include/vollikash.h", "lib/libvollikash.a", "lib/libvollikash.so",
     "lib/libvollikash.so.1", f"lib/libvollikash.so.{dist.VERSION}", "lib/pkgconfig/vollikash.pc",
-    "share/man/man1/changeset.1",
+    "share/man/man1/changeset.1", "share/man/man1/changeset-calls.1",
 }
 # Documents of the archive, among others.
 DOCUMENTS = {
@@ -196,7 +196,7 @@ class Archive(unittest.TestCase):
         self.assertEqual({member.mtime for member in members}, {DATE})
         executable = {member.name.split("/", 1)[1] for member in members if member.isreg() and member.mode != 0o644}
         programs = {"examples/notes/notes.py", "examples/sync/sync.py"}
-        self.assertEqual(executable, {"bin/changeset", f"lib/libvollikash.so.{dist.VERSION}", *programs})
+        self.assertEqual(executable, {"bin/changeset", "bin/changeset-calls", f"lib/libvollikash.so.{dist.VERSION}", *programs})
         self.assertEqual({member.mode for member in members}, {0o644, 0o755, 0o777})
 
     def test_sums(self):
@@ -261,8 +261,8 @@ class Wheel(unittest.TestCase):
     """What the wheel says, and what it installs."""
 
     def test_tag(self):
-        """It names the version of glibc that the program and the library need, and no later one."""
-        symbols = run("objdump", "-T", dist.PROGRAM) + run("objdump", "-T", dist.SHARED)
+        """It names the version of glibc that the programs and the library need, and no later one."""
+        symbols = "".join(run("objdump", "-T", file) for file in (dist.PROGRAM, dist.CALLS, dist.SHARED))
         needed = {(int(major), int(minor)) for major, minor in re.findall(r"\bGLIBC_(\d+)\.(\d+)", symbols)}
         major, minor = max(needed | {glibc.OLDEST})
         tag = f"py3-none-manylinux_{major}_{minor}_x86_64"
@@ -284,12 +284,13 @@ class Wheel(unittest.TestCase):
         printed = run(release().python, "-c", WHERE).splitlines()
         (package,) = release().environment.glob("lib/python*/site-packages/vollikash")
         self.assertEqual(printed, [str(package / "libvollikash.so"), str(package / "changeset")])
-        self.assertEqual(files_below(package), files_below(PACKAGE) | {"libvollikash.so", "changeset"})
+        self.assertEqual(files_below(package), files_below(PACKAGE) | {"libvollikash.so", "changeset", "changeset-calls"})
 
     def test_commands(self):
-        """The program itself is on PATH, and the command if the package has it."""
+        """The programs themselves are on PATH, and the command if the package has it."""
         folder = release().environment / "bin"
         self.assertEqual((folder / "changeset").read_bytes(), dist.PROGRAM.read_bytes())
+        self.assertEqual((folder / "changeset-calls").read_bytes(), dist.CALLS.read_bytes())
         printed = run("changeset", "examples/key-change.cs", "dump", cwd=release().unpacked, env=environment(folder))
         self.assertIn("table 't'", printed)
         if HAS_COMMAND:
@@ -419,7 +420,7 @@ class Editable(unittest.TestCase):
             if IS_BUILT:
                 found = run(python, "-c", WHERE, cwd=folder).splitlines()
                 self.assertEqual(found, [str(TOP / "bindings/c/out/libvollikash.so"), str(dist.PROGRAM)])
-            commands = [name for name in ("changeset", "vollikash") if pathlib.Path(folder, "bin", name).exists()]
+            commands = [name for name in ("changeset", "changeset-calls", "vollikash") if pathlib.Path(folder, "bin", name).exists()]
             self.assertEqual(commands, ["vollikash"])
         self.assertEqual(sorted(PACKAGE.parent.iterdir()), before)
 

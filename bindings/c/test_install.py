@@ -19,13 +19,17 @@ sys.path.insert(0, str(HERE.parents[1] / "tests"))
 from support.flags import flags_by_pkg_config, flags_of_file  # noqa: E402
 
 PROGRAM = HERE.parents[1] / "crates/changeset/out/changeset"
+CALLS = HERE.parents[1] / "crates/changeset_calls/out/changeset_calls"
 
-# What is installed below the prefix, and what else where the program is built.
+# What is installed below the prefix, and what else where a program is built.
 LIBRARY = {
     "include/vollikash.h", "lib/libvollikash.a", "lib/libvollikash.so", "lib/libvollikash.so.1", "lib/libvollikash.so.1.0.0",
     "lib/pkgconfig/vollikash.pc",
 }
-COMMAND = {"bin/changeset", "share/man/man1/changeset.1"}
+COMMANDS = {
+    PROGRAM: {"bin/changeset", "share/man/man1/changeset.1"},
+    CALLS: {"bin/changeset-calls", "share/man/man1/changeset-calls.1"},
+}
 
 # An INSERT into a table of two key columns, whose flags are 1 and 1, is numbered.
 SOURCE = r"""
@@ -97,7 +101,7 @@ class Install(unittest.TestCase):
         return flags_by_pkg_config(file) or flags_of_file(file)
 
     def test_files(self):
-        wanted = LIBRARY | (COMMAND if PROGRAM.exists() else set())
+        wanted = LIBRARY.union(*(files for program, files in COMMANDS.items() if program.exists()))
         self.assertEqual(files_below(self.prefix), wanted)
 
     def test_a_program(self):

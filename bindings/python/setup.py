@@ -1,6 +1,6 @@
-"""Adds what is not Python to the wheel: the C library, the program, manual pages and completions.
+"""Adds what is not Python to the wheel: the C library, the programs, manual pages and completions.
 
-`pyproject.toml` has the rest. The library and the program have to be built first. An editable
+`pyproject.toml` has the rest. The library and the programs have to be built first. An editable
 installation does without them here, and uses those of the repository.
 """
 import os
@@ -28,13 +28,21 @@ from glibc import tag_of  # noqa: E402
 
 LIBRARY = TOP / "bindings/c/out/libvollikash.so"
 PROGRAM = TOP / "crates/changeset/out/changeset"
+CALLS = TOP / "crates/changeset_calls/out/changeset_calls"
 
 # What is built, and what builds it.
-BUILT = {LIBRARY: "make -C bindings/c", PROGRAM: "(cd crates/changeset && rt run)"}
+BUILT = {
+    LIBRARY: "make -C bindings/c",
+    PROGRAM: "(cd crates/changeset && rt run)",
+    CALLS: "(cd crates/changeset_calls && rt run)",
+}
+
+# The programs, by the names under which they are installed.
+PROGRAMS = {"changeset": PROGRAM, "changeset-calls": CALLS}
 
 # Where other files are installed, if they are there.
 SHARED = {
-    "share/man/man1": ["man/changeset.1", "man/vollikash.1"],
+    "share/man/man1": ["man/changeset.1", "man/changeset-calls.1", "man/vollikash.1"],
     "share/bash-completion/completions": ["bindings/python/completions/vollikash.bash"],
     "share/zsh/site-functions": ["bindings/python/completions/_vollikash"],
 }
@@ -53,7 +61,7 @@ class Native(Distribution):
 
 
 class BuildPy(build_py):
-    """Builds the package with the library and the program."""
+    """Builds the package with the library and the programs."""
 
     def run(self):
         super().run()
@@ -62,23 +70,26 @@ class BuildPy(build_py):
         for file, command in BUILT.items():
             if not file.exists():
                 raise SystemExit(f"there is no {file.name}: `{command}` builds it")
-            shutil.copy(file, pathlib.Path(self.build_lib, "vollikash"))
+        package = pathlib.Path(self.build_lib, "vollikash")
+        for name, file in {LIBRARY.name: LIBRARY, **PROGRAMS}.items():
+            shutil.copy(file, package / name)
 
 
 class BuildScripts(build_scripts):
-    """Copies the program, which is no text, into the folder of scripts."""
+    """Copies the programs, which are no text, into the folder of scripts."""
 
     editable_mode = False
 
     def copy_scripts(self):
         self.mkpath(self.build_dir)
         if not self.editable_mode:
-            shutil.copy(PROGRAM, self.build_dir)
+            for name, file in PROGRAMS.items():
+                shutil.copy(file, pathlib.Path(self.build_dir, name))
         return [], []
 
 
 class Wheel(bdist_wheel):
-    """Makes the wheel for each CPython, and for the systems on which library and program run."""
+    """Makes the wheel for each CPython, and for the systems on which library and programs run."""
 
     def get_tag(self):
         if "editable_wheel" in self.distribution.commands:

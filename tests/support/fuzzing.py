@@ -17,12 +17,13 @@ import subprocess
 import sys
 import tempfile
 import time
+from functools import partial
 
 from support import library, reader, trials
 from support.making import Maker
 from support.model import Refusal, concatenated, dump_lines, shown_tables, sql_lines
 from support.program import PATIENCE, PROGRAM
-from support.shell import Shell, Words, meant, one_line
+from support.shell import Shell, Words
 from support.stores import read_store
 from support.topics import read_topics
 
@@ -58,7 +59,7 @@ class Script:
 
     def add(self, *lines):
         """Adds lines."""
-        for line in map(one_line, lines):
+        for line in (line.replace(b"\n", b" ") for line in lines):
             self.shell.is_refused = False
             self.lines.append(line)
             self.answers.append(b"".join(told + b"\n" for told in self.shell.answer(line)))
@@ -213,8 +214,6 @@ class Case:
             line = maker.create()
         if maker.is_one_in(20):
             line = maker.spoiled(line)
-        if maker.is_one_in(40):
-            line = maker.spelled(line)
         return maker.blanks(line) if maker.is_one_in(20) else line
 
     def of_lines(self):
@@ -267,7 +266,7 @@ class Case:
 
     def done(self, script):
         """The lines of a script of statements that were not refused."""
-        return [meant(line) for line, answer in zip(script.lines, script.answers) if answer == b""]
+        return [line for line, answer in zip(script.lines, script.answers) if answer == b""]
 
     def ask_apply(self, shell, line):
         """Has SQLite's library asked what a line applies."""
@@ -373,14 +372,14 @@ def differs(folder, lines):
     return run_lines(folder, lines) != Script(lines).ends()
 
 
-def least(folder, lines):
+def least(lines, differs):
     """As few of the lines as still differ, where single ones and runs of them are left out."""
     part, end = len(lines) // 2, time.monotonic() + SHORTENING
     while part and time.monotonic() < end:
         at = 0
         while at < len(lines) and time.monotonic() < end:
             fewer = lines[:at] + lines[at + part:]
-            if differs(folder, fewer):
+            if differs(fewer):
                 lines = fewer
             else:
                 at += part
@@ -401,7 +400,7 @@ def report_difference(words, number, difference, folder):
     kept, name = pathlib.Path(words.keep), f"seed-{words.seed}-case-{number}"
     files = [keep(kept, f"{name}.lines", difference.lines)]
     if isinstance(difference, Difference) and differs(folder, difference.lines):
-        files.append(keep(kept, f"{name}.least.lines", least(folder, difference.lines)))
+        files.append(keep(kept, f"{name}.least.lines", least(difference.lines, partial(differs, folder))))
     print(f"case {number}: {difference}")
     print(f"it is run again by: tests/fuzz --seed {words.seed} --case {number}")
     for file in files:

@@ -451,11 +451,6 @@ class Maker:
             return line.swapcase()
         return self.pick((b" ", b"\t", b"  ", b"\r")).join((b"", line, b""))
 
-    def spelled(self, line):
-        """A line that spells this one."""
-        digits = line.hex().encode()
-        return b".line " + self.pick((digits, digits, digits.upper(), digits + b"0", b"2e6c696e6520" + digits))
-
 
 DAMAGES = (
     Maker.flip, Maker.flip, Maker.set_byte, Maker.set_byte, Maker.cut, Maker.splice, Maker.join, Maker.claim,

@@ -25,23 +25,10 @@ TOKEN = re.compile(
 
 MOST_COLUMNS = 32767
 
-LINE = re.compile(rb"[ \t\r]*\.line[ \t\r]+((?:[0-9A-Fa-f]{2})+)[ \t\r]*")
-
 
 def syntax(place):
     """A line that does not fit at a place, from 0."""
     return Refusal(b"error 61 Syntax %d" % (place + 1))
-
-
-def meant(line):
-    """The line that a line stands for."""
-    found = LINE.fullmatch(line)
-    return line if found is None else bytes.fromhex(found[1].decode())
-
-
-def one_line(line):
-    """A line without a line feed that stands for this one."""
-    return b".line " + line.hex().encode() if b"\n" in line else line
 
 
 class Tokens:
@@ -268,7 +255,6 @@ class Shell:
 
     def run(self, line):
         """Runs a line, and answers what it prints, unless it is refused."""
-        line = meant(line)
         if not reader.is_text(line):
             raise Refusal(b"error 68 LineText")
         words = Words(line)

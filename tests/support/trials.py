@@ -90,7 +90,7 @@ def run(folder, words, stdin, loading=None, program=None):
         [program or PROGRAM, *words], cwd=folder, input=stdin, capture_output=True, timeout=PATIENCE,
         env={**os.environ, **loading}, pass_fds=[int(loading[name]) for name in DESCRIPTORS if name in loading],
     )
-    return done.returncode, done.stdout.decode(), done.stderr.decode()
+    return done.returncode, done.stdout.decode(errors="surrogateescape"), done.stderr.decode()
 
 
 class Trial:

@@ -35,6 +35,10 @@ impl Model for Chosen {
 
 impl Chosen {
     /// Returns the choices for the conflicts of a rehearsal, in their order. There is one for each.
+    ///
+    /// # Errors
+    ///
+    /// `NoMemory` if out of memory.
     pub fn new(alloc: Global, found: Vec<Found>, choices: &[Choice]) -> Result<Chosen, NoMemory>
         requires { length choices.now ≡ length found.items }
         ensures { IfOk result (λ chosen. (conflict : ConflictData) (choice : ChoiceData)

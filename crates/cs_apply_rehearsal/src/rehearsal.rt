@@ -34,8 +34,8 @@ use std::alloc::Global;
 ///
 /// `Read` if the file is no changeset's, and `Wider` if a table has more columns than the file says. `StoreFault` or
 /// `NoMemory` if the transaction has ended, the database refuses, or out of memory. `DamagedStore` if what is stored is
-/// damaged. After a refusal the transaction shows what it showed before. Or the error is of the store or `NoMemory`, the
-/// transaction has ended ([`Transaction::has_ended`]), and the store is as it was when the transaction began.
+/// damaged. After a refusal the transaction shows what it showed before. Or the error is of the store or `NoMemory`,
+/// the transaction has ended ([`Transaction::has_ended`]), and the store is as it was when the transaction began.
 pub fn rehearse<S: Alter + Drop>(
     alloc: Global,
     transaction: &mut Transaction<S>,

@@ -42,8 +42,8 @@ pub fn declare<S: Alter + Drop>(
     }
 }
 
-/// Carries out an edit of a table, and returns the keys that it wrote. A call names the row of an update or a deletion by
-/// the values of its key.
+/// Carries out an edit of a table, and returns the keys that it wrote. A call names the row of an update or a deletion
+/// by the values of its key.
 fn carry_out<S: Alter + Drop>(
     alloc: Global,
     transaction: &mut Transaction<S>,
@@ -95,8 +95,8 @@ pub fn insert<S: Alter + Drop>(
     carry_out(alloc, transaction, table, &schema, &no_key, &edit)
 }
 
-/// Puts a row in the place of that of a key, and returns the keys that were written, with the rows from before. It is then
-/// under its own key, and none is under the former one if that is another.
+/// Puts a row in the place of that of a key, and returns the keys that were written, with the rows from before. It is
+/// then under its own key, and none is under the former one if that is another.
 ///
 /// # Errors
 ///

@@ -1,5 +1,5 @@
 -- Lemmas on calls that are answered one after another.
-use Rattle.std.proofs.Common.{◌≡◌, ◌≢◌, ℕ, ◌+◌, ◌<◌, ◌≤◌, ltb, List, [], ◌∷◌, ◌++◌, length, take, Option, Result, Ok, Err, inl, inr, refl, sym, ap, subst, ◌∙◌, append_assoc, append-nil, arith, length-append}
+use Rattle.std.proofs.Common.{◌≡◌, ◌≢◌, ℕ, ◌+◌, ◌<◌, ◌≤◌, ltb, List, [], ◌∷◌, ◌++◌, length, take, Option, inl, inr, refl, sym, ap, subst, ◌∙◌, append_assoc, append-nil, arith, length-append}
 use Rattle.std.specs.Prelude.{IsTrue}
 use Rattle.std.specs.Int.{w32, to_be_bytes, from_be_bytes}
 use Rattle.std.proofs.lemmas.List.Concat.{flat_map-append}
@@ -9,7 +9,7 @@ use Rattle.std.specs.Io.KnownBytes.{Appends, Consumes}
 use Rattle.std.proofs.KnownBytes.{Appends-nil, Appends-trans, Consumes-nil, Consumes-trans}
 use Rattle.cs_file_texts.specs.declared.told.Told.{Told}
 use Rattle.cs_file_texts.specs.Told.{has_failed, known}
-use Rattle.cs_file_texts.specs.Calls.{AppendsFront, Writes}
+use Rattle.cs_file_texts.specs.Calls.{AppendsFront}
 use Rattle.cs_calls_parts.specs.Spelling.{option_bytes}
 use Rattle.cs_calls_answers.specs.Spelling.{number_of, parts_of, refused_bytes}
 use Rattle.cs_calls_server.specs.declared.frames.Ending.{Ending}
@@ -49,22 +49,6 @@ Exchanges-then remaining gives a b c x y z calls answers more others last p q = 
   consumed = subst (Consumes (known remaining x) (known remaining z)) (joined calls more last)
       (Consumes-trans (known remaining x) (known remaining y) (known remaining z) _ _ p.consumed q.consumed);
 }
-
--- a text is written after another, or neither is
-pub Writes-first : {W X E : Type 0} (contents : W → Option (List ℕ)) (e : E) (old new : Told W) (head body : List ℕ) → AppendsFront (known contents old) (known contents new) head → IsTrue (has_failed new)
-    → Writes {X = X} contents (Err e) old new (head ++ body)
-Writes-first contents e old new head body front failed = record {
-  wrote = (front.0, front.1 ++ body, ap (λ l. l ++ body) front.2 ∙ append_assoc front.0 front.1 body, front.3);
-  flagged = failed;
-}
-
-AppendsFront-behind : (first before after : Option (List ℕ)) (text more : List ℕ) → Appends first before text → AppendsFront before after more → AppendsFront first after (text ++ more)
-AppendsFront-behind first before after text more p q = (text ++ q.0, q.1, ap (λ l. text ++ l) q.2 ∙ sym (append_assoc text q.0 q.1), Appends-trans first before after text q.0 p q.3)
-
-pub Writes-then : {W X E : Type 0} (contents : W → Option (List ℕ)) (result : Result X E) (old mid new : Told W) (head body : List ℕ) → Appends (known contents old) (known contents mid) head → Writes contents result mid new body
-    → Writes contents result old new (head ++ body)
-Writes-then contents (Ok x) old mid new head body p w = record { wrote = Appends-trans (known contents old) (known contents mid) (known contents new) head body p w.wrote; flagged = tt }
-Writes-then contents (Err e) old mid new head body p w = record { wrote = AppendsFront-behind (known contents old) (known contents mid) (known contents new) head body p w.wrote; flagged = w.flagged }
 
 -- nothing was read
 pub Served-start : {S R W : Type 0} (remaining : R → Option (List ℕ)) (contents : W → Option (List ℕ)) (gives : S → List ℕ → List ℕ → S → Type 0) (start : S) (input : Told R) (out : Told W)

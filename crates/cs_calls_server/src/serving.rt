@@ -6,7 +6,7 @@ ghost use Rattle.cs_calls_server.specs.Serving.{no_memory, Fits, sent_bytes, Res
 
 pub use crate::frames::Ending;
 use crate::frames::{Received, read_call, read_length};
-use cs_file_texts::{OutputFault, Told, write_whole};
+use cs_file_texts::{Gather, OutputFault, Piece, Told, add_pieces};
 use cs_value::NoMemory;
 use std::alloc::Global;
 use std::io::{Read, Write};
@@ -68,14 +68,19 @@ fn respond<A: Answering>(alloc: Global, answering: &mut A, received: &Received) 
     }
 }
 
-/// Writes the frame of an answer.
+/// Writes the frame of an answer, by one write if it is short.
 fn write_frame<W: Write>(out: &mut Told<W>, answer: &[u8]) -> Result<(), OutputFault>
     requires { length answer.now ≤ FRAME_LIMIT }
     ensures { Writes W.contents result out.old out.new (frame_bytes answer.now) }
 {
-    let count = answer.len() as u32;
-    write_whole(out, &count.to_be_bytes())?;
-    write_whole(out, answer)
+    let count = (answer.len() as u32).to_be_bytes();
+    let mut frame = Gather::new();
+    add_pieces(
+        &mut frame,
+        out,
+        &[Piece::Bytes(&count), Piece::Bytes(answer)],
+    )?;
+    frame.flush(out)
 }
 
 /// Writes the frame of what is sent.

@@ -50,8 +50,8 @@ impl Session {
         Ok(Session { tables })
     }
 
-    /// Notes keys that were written, each with the row from before, where their table is attached and they are not noted
-    /// yet.
+    /// Notes keys that were written, each with the row from before, where their table is attached and they are not
+    /// noted yet.
     ///
     /// Call it in place of [`merge`](Session::merge) for the writes themselves, as
     /// [`Transaction::edit`](cs_store::Transaction::edit) and a report return them.
@@ -59,8 +59,8 @@ impl Session {
     /// # Errors
     ///
     /// They come with the session as it was. `NoMemory` if out of memory, and
-    /// [`DamagedStore`](cs_store::StoreError::DamagedStore) if a row from before cannot be of the table that is attached
-    /// under the name.
+    /// [`DamagedStore`](cs_store::StoreError::DamagedStore) if a row from before cannot be of the table that is
+    /// attached under the name.
     pub fn note(
         self,
         alloc: Global,

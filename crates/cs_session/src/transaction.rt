@@ -226,7 +226,8 @@ impl Session {
     ///
     /// `StoreFault` or `NoMemory` if the transaction has ended. Otherwise [`WrongStore`](SessionFault::WrongStore) if
     /// the transaction does not show each table as it was attached, and `StoreFault`, `NoMemory` or `DamagedStore` if
-    /// the database refuses, memory runs out or a row cannot be of its table. A refusal leaves what one of
+    /// the database refuses, memory runs out or a row cannot be of its table. `Wider`, `Abort` and `Misuse` come only if
+    /// the disk does not return what was written. A refusal leaves what one of
     /// [`edit_in_transaction`](Session::edit_in_transaction) leaves.
     pub fn undo_in_transaction<S: Alter + Drop>(
         &self,

@@ -14,8 +14,7 @@ use Rattle.cs_shell_script.specs.declared.script.Status.{Status}
 use Rattle.cs_shell_script.specs.declared.script.Status.TheVariants.{Done, LinesRefused, TooLong, InputFault, OutputFault}
 use Rattle.cs_shell_replies.specs.ErrorLines.{refusal_text}
 use Rattle.cs_shell_script.specs.Runs.{RunsInput}
-use Rattle.cs_shell_executor.specs.LineAnswers.{IsResource}
-use Rattle.cs_shell_script.specs.Meant.{LineSays}
+use Rattle.cs_shell_executor.specs.LineAnswers.{IsResource, LineGives}
 use Rattle.cs_shell_script.specs.StoreRuns.{beginning}
 
 -- the error line of a refusal is written, or a prefix of it if a write fails
@@ -36,7 +35,7 @@ ReportsStatus errors OutputFault before after = (fault : Fault) × Reports error
 abbrev pub RunsInMemory : {R W E : Type 0} → (R → Option (List ℕ)) → (W → Option (List ℕ)) → (E → Option (List ℕ)) → ℕ
     → Told R → Told R → Told W → Told W → Told E → Told E → Type 0
 RunsInMemory remaining contents errors exit input_before input_after before after err_before err_after =
-    ((run : RunsInput remaining contents LineSays (beginning map.empty) exit input_before input_after before after)
+    ((run : RunsInput remaining contents LineGives (beginning map.empty) exit input_before input_after before after)
     × ReportsStatus errors run.status err_before err_after)
     ⊎ ((exit ≡ 1) × (input_after ≡ input_before) × (after ≡ before)
     × ((why : Refusal) × IsResource why × Reports errors why err_before err_after))

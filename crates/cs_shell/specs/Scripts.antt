@@ -9,7 +9,7 @@ use Rattle.cs_shell_executor.specs.ShellState.{ShellState}
 use Rattle.cs_shell_replies.specs.ErrorLines.{of_store}
 use Rattle.cs_shell_script.specs.declared.script.Status.{Status}
 use Rattle.cs_shell.specs.CommandLine.{Reports, ReportsStatus}
-use Rattle.cs_shell_script.specs.Meant.{LineSays}
+use Rattle.cs_shell_executor.specs.LineAnswers.{LineGives}
 use Rattle.cs_shell_script.specs.Runs.{Runs, exit_of}
 use Rattle.cs_shell_script.specs.StoreRuns.{beginning, HasReply}
 
@@ -18,7 +18,7 @@ pub record ScriptGives {R W : Type 0} (remaining : R → Option (List ℕ)) (con
     (status : Status) (input_before input_after : Told R) (out_before out_after : Told W)
     (before after : State) : Type 0 where
   pub final : ShellState
-  pub runs : Runs remaining contents LineSays status (beginning before) final input_before input_after
+  pub runs : Runs remaining contents LineGives status (beginning before) final input_before input_after
       out_before out_after
   pub tables : final.tables ≡ after
 

@@ -12,7 +12,6 @@ use Rattle.cs_shell_replies.specs.declared.refusal.Refusal.{Refusal}
 use Rattle.cs_shell_replies.specs.Replies.{Reply, Refused}
 use Rattle.cs_shell_script.specs.Runs.{LinesGive, Runs}
 use Rattle.cs_shell_executor.specs.LineAnswers.{IsResource, LineGives, unanswered}
-use Rattle.cs_shell_script.specs.Meant.{LineSays, meant}
 use Rattle.cs_shell_executor.specs.ShellState.{ShellState}
 use Rattle.cs_shell_script.specs.StoreRuns.{HasReply, IsSettled, RunsScript, Shows, beginning}
 use Rattle.cs_store.specs.Turns.{AreSame, Known, Stands, TurnsBetween}
@@ -21,37 +20,30 @@ use Rattle.cs_shell_script.specs.Shells.{Answers, RunsShell}
 use Rattle.cs_shell_script.proofs.RunLemmas.{Runs-answered}
 use Rattle.cs_shell_executor.proofs.TurnLemmas.{between_at_rest, between_still, between_then, between_weaker, known_shows, unable_as}
 
--- a line does what the line that it spells does
-pub line_meant : (old new : sqlite.State) (before after : Workspace) (line plain : List ℕ) (reply : Reply) → meant line ≡ plain
-    → WorksOn old new before.slots after.slots before.session after.session (λ state. LineGives state plain) reply
-    → WorksOn old new before.slots after.slots before.session after.session (λ state. LineSays state line) reply
-line_meant old new before after line plain reply same works =
-    subst (λ (l : List ℕ). WorksOn old new before.slots after.slots before.session after.session (λ state. LineGives state l) reply) (sym same) works
-
 -- a line before which the store refused to be at rest
 pub line_not_at_rest : (old new : sqlite.State) (was is : Bool) (work : Workspace) (line : List ℕ) (why : Refusal) → IsResource why
     → ((rests : Bool) → TurnsBetween old new (Known (rests || was) old) (Known (rests || is) new) AreSame) → Answers old new was is work work line (Refused why)
 line_not_at_rest old new was is work line why resource turns = λ rests.
-    between_weaker (Known (rests || was) old) (Known (rests || is) new) AreSame (GaveOn work.slots work.slots work.session work.session (λ state. LineSays state line) (Refused why)) old new
-    (λ t u same. subst (λ (s : State). GaveOn work.slots work.slots work.session work.session (λ state. LineSays state line) (Refused why) t s) (sym same)
-    (λ here. (here, unable_as (λ state. LineSays state line) (seen t work.slots work.session) why resource))) (turns rests)
+    between_weaker (Known (rests || was) old) (Known (rests || is) new) AreSame (GaveOn work.slots work.slots work.session work.session (λ state. LineGives state line) (Refused why)) old new
+    (λ t u same. subst (λ (s : State). GaveOn work.slots work.slots work.session work.session (λ state. LineGives state line) (Refused why) t s) (sym same)
+    (λ here. (here, unable_as (λ state. LineGives state line) (seen t work.slots work.session) why resource))) (turns rests)
 
 -- a line over a store that is at rest
 pub line_at_rest : (old mid new : sqlite.State) (was is : Bool) (before after : Workspace) (line : List ℕ) (reply : Reply) → is ≡ true
     → ((rests : Bool) → TurnsBetween old mid (Known (rests || was) old) (Known (rests || is) mid) AreSame)
-    → WorksOn mid new before.slots after.slots before.session after.session (λ state. LineSays state line) reply → Answers old new was is before after line reply
+    → WorksOn mid new before.slots after.slots before.session after.session (λ state. LineGives state line) reply → Answers old new was is before after line reply
 line_at_rest old mid new was is before after line reply at_rest turns works = λ rests.
     between_then (Known (rests || was) old) (Known (rests || is) mid) (Known (rests || is) new) AreSame
-    (GaveOn before.slots after.slots before.session after.session (λ state. LineSays state line) reply) (GaveOn before.slots after.slots before.session after.session (λ state. LineSays state line) reply) old mid new (turns rests)
-    (between_at_rest rests is (GaveOn before.slots after.slots before.session after.session (λ state. LineSays state line) reply) mid new at_rest works)
-    (λ t u v same work. subst (λ (s : State). GaveOn before.slots after.slots before.session after.session (λ state. LineSays state line) reply s v) same work)
+    (GaveOn before.slots after.slots before.session after.session (λ state. LineGives state line) reply) (GaveOn before.slots after.slots before.session after.session (λ state. LineGives state line) reply) old mid new (turns rests)
+    (between_at_rest rests is (GaveOn before.slots after.slots before.session after.session (λ state. LineGives state line) reply) mid new at_rest works)
+    (λ t u v same work. subst (λ (s : State). GaveOn before.slots after.slots before.session after.session (λ state. LineGives state line) reply s v) same work)
 
 -- any line may be refused for memory or by the database
-pub line_gives : (line : List ℕ) (old : ShellState) (reply : Reply) (new : ShellState) → OrUnable (λ state. LineSays state line) old reply new → LineSays old line reply new
+pub line_gives : (line : List ℕ) (old : ShellState) (reply : Reply) (new : ShellState) → OrUnable (λ state. LineGives state line) old reply new → LineGives old line reply new
 line_gives line old reply new (inl gives) = gives
 line_gives line old reply new (inr unable) =
-    subst (λ (s : ShellState). LineSays old line reply s) (sym unable.same)
-    (subst (λ (r : Reply). LineSays old line r old) (sym unable.refused) (unanswered old (meant line) unable.why unable.resource))
+    subst (λ (s : ShellState). LineGives old line reply s) (sym unable.same)
+    (subst (λ (r : Reply). LineGives old line r old) (sym unable.refused) (unanswered old line unable.why unable.resource))
 
 module _ {M : Type 0} (gives : M → List ℕ → Reply → M → Type 0) where
   -- what each line keeps, all keep
@@ -65,13 +57,13 @@ module _ {M : Type 0} (gives : M → List ℕ → Reply → M → Type 0) where
 
   module _ (conn : M → sqlite.State) (known : M → State → Type 0) (work : M → Workspace)
       (answers : (a b : M) (line : List ℕ) (reply : Reply) → gives a line reply b
-      → TurnsBetween (conn a) (conn b) (known a) (known b) (GaveOn (work a).slots (work b).slots (work a).session (work b).session (λ state. LineSays state line) reply)) where
+      → TurnsBetween (conn a) (conn b) (known a) (known b) (GaveOn (work a).slots (work b).slots (work a).session (work b).session (λ state. LineGives state line) reply)) where
     abbrev sees : State → M → ShellState
     sees t m = seen t (work m).slots (work m).session
 
     -- lines gave these replies, over these tables, whose session has its tables there
     abbrev Given : List (List ℕ) → List Reply → M → M → State → State → Type 0
-    Given lines replies a b t u = IsHere t (work a).session → IsHere u (work b).session × LinesGive LineSays (sees t a) lines replies (sees u b)
+    Given lines replies a b t u = IsHere t (work a).session → IsHere u (work b).session × LinesGive LineGives (sees t a) lines replies (sees u b)
 
     -- lines in turn are one turn
     pub lines_turn : (lines : List (List ℕ)) (replies : List Reply) (a b : M) → LinesGive gives a lines replies b → TurnsBetween (conn a) (conn b) (known a) (known b) (Given lines replies a b)
@@ -80,7 +72,7 @@ module _ {M : Type 0} (gives : M → List ℕ → Reply → M → Type 0) where
     lines_turn [] (reply ∷ replies) a b given = absurd given
     lines_turn (line ∷ lines) [] a b given = absurd given
     lines_turn (line ∷ lines) (reply ∷ replies) a b given =
-        between_then (known a) (known given.0) (known b) (GaveOn (work a).slots (work given.0).slots (work a).session (work given.0).session (λ state. LineSays state line) reply) (Given lines replies given.0 b) (Given (line ∷ lines) (reply ∷ replies) a b)
+        between_then (known a) (known given.0) (known b) (GaveOn (work a).slots (work given.0).slots (work a).session (work given.0).session (λ state. LineGives state line) reply) (Given lines replies given.0 b) (Given (line ∷ lines) (reply ∷ replies) a b)
         (conn a) (conn given.0) (conn b) (answers a given.0 line reply given.1) (lines_turn lines replies given.0 b given.2)
         (λ t u v first others here.
         let one = first here in
@@ -99,12 +91,12 @@ any_replies gives a b (line ∷ lines) (reply ∷ replies) given = (tt, tt, any_
 
 module _ {R W M : Type 0} (remaining : R → Option (List ℕ)) (contents : W → Option (List ℕ)) (gives : M → List ℕ → Reply → M → Type 0) (conn : M → sqlite.State) (known : M → State → Type 0) (work : M → Workspace)
     (answers : (a b : M) (line : List ℕ) (reply : Reply) → gives a line reply b
-    → TurnsBetween (conn a) (conn b) (known a) (known b) (GaveOn (work a).slots (work b).slots (work a).session (work b).session (λ state. LineSays state line) reply)) where
+    → TurnsBetween (conn a) (conn b) (known a) (known b) (GaveOn (work a).slots (work b).slots (work a).session (work b).session (λ state. LineGives state line) reply)) where
   -- a run over a store, as a script sees it
   pub shell_runs : (status : Status) (start final : M) (a b : Told R) (x y : Told W) → Runs remaining contents gives status start final a b x y
       → TurnsBetween (conn start) (conn final) (known start) (known final) (RunsShell remaining contents status (work start) (work final) a b x y)
   shell_runs status start final a b x y runs =
-      let some = Runs-answered remaining contents gives LineSays status start final a b x y runs in
+      let some = Runs-answered remaining contents gives LineGives status start final a b x y runs in
       between_weaker (known start) (known final) (Given gives conn known work answers some.lines some.replies start final) (RunsShell remaining contents status (work start) (work final) a b x y) (conn start) (conn final)
       (λ t u holds here. some.seen (sees gives conn known work answers t start) (sees gives conn known work answers u final) (holds here).1)
       (lines_turn gives conn known work answers some.lines some.replies start final some.given)
@@ -119,7 +111,7 @@ begins remaining contents status at_rest old new work after a b x y slots sessio
     let start : seen t work.slots work.session ≡ beginning t = λ i. record { tables = t; slots = slots i; session = seen_session t (session i) } in
     record {
       last = seen done.0 after.slots after.session;
-      runs = subst (λ (s : ShellState). Runs remaining contents LineSays status s (seen done.0 after.slots after.session) a b x y) start (done.2 here);
+      runs = subst (λ (s : ShellState). Runs remaining contents LineGives status s (seen done.0 after.slots after.session) a b x y) start (done.2 here);
       shows = known_shows at_rest new done.0 done.1;
     }
 

@@ -2,7 +2,6 @@ pub mod Net
 pub mod Shells
 pub mod Laws
 pub mod StoreRuns
-pub mod Meant
 pub mod Runs
 pub mod SessionLaw
 pub mod Progress

@@ -3,7 +3,7 @@ use Rattle.std.specs.Prelude.{ℕ, List}
 use Rattle.cs_value.specs.State.{State}
 use Rattle.cs_shell_replies.specs.Replies.{Reply}
 use Rattle.cs_shell_script.specs.Net.{HasNet}
-use Rattle.cs_shell_script.specs.Meant.{LineSays}
+use Rattle.cs_shell_executor.specs.LineAnswers.{LineGives}
 use Rattle.cs_shell_executor.specs.ShellState.{ShellState}
 use Rattle.cs_shell_script.specs.Runs.{LinesGive}
 use Rattle.cs_shell_script.specs.StoreRuns.{beginning}
@@ -12,4 +12,4 @@ use Rattle.cs_shell_script.specs.StoreRuns.{beginning}
 -- its whole tables
 abbrev pub ScriptHasNet : Type 0
 ScriptHasNet = (tables : State) (lines : List (List ℕ)) (replies : List Reply) (last : ShellState)
-    → LinesGive LineSays (beginning tables) lines replies last → HasNet last
+    → LinesGive LineGives (beginning tables) lines replies last → HasNet last

@@ -6,7 +6,7 @@ use Rattle.cs_value.specs.State.{State}
 use Rattle.cs_file_texts.specs.declared.told.Told.{Told}
 use Rattle.cs_shell_script.specs.declared.script.Status.{Status}
 use Rattle.cs_shell_replies.specs.Replies.{Reply}
-use Rattle.cs_shell_script.specs.Meant.{LineSays}
+use Rattle.cs_shell_executor.specs.LineAnswers.{LineGives}
 use Rattle.cs_shell_executor.specs.ShellState.{ShellState}
 use Rattle.cs_shell_script.specs.Runs.{Runs}
 pub use Rattle.cs_store.specs.Turns.{Shows, IsSettled, SparesOthers, SparesStore, TellsFailures}
@@ -20,7 +20,7 @@ pub record RunsScript {R W : Type 0} (remaining : R → Option (List ℕ)) (cont
     (status : Status) (input_before input_after : Told R) (before after : Told W) (tables : State)
     (new : sqlite.State) : Type 0 where
   pub last : ShellState
-  pub runs : Runs remaining contents LineSays status (beginning tables) last input_before input_after before after
+  pub runs : Runs remaining contents LineGives status (beginning tables) last input_before input_after before after
   pub shows : Shows new last.tables
 
 -- a line has a reply, whatever it is

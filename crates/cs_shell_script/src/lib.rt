@@ -8,12 +8,11 @@
 //! ```
 //!
 //! `script` reads lines by a `reader`, passes each to an interpreter, and prints the replies. `shell` is the
-//! interpreter over a store: [`cs_shell_executor`] has what it answers. `meant` has the line that a line spells. `laws`
-//! has what holds of whole scripts. [`cs_shell_replies`] has the replies and how they are printed.
+//! interpreter over a store: [`cs_shell_executor`] has what it answers. `laws` has what holds of whole scripts.
+//! [`cs_shell_replies`] has the replies and how they are printed.
 #![tactic(auto)]
 
 mod laws;
-mod meant;
 mod reader;
 mod script;
 mod shell;

@@ -4,14 +4,10 @@ ghost use Rattle.sqlite.specs.Held.{state};
 ghost use Rattle.sqlite.specs.State.{HasCleanDisk};
 ghost use Rattle.cs_value.specs.State.{State};
 ghost use Rattle.cs_store.specs.Turns.{IsSettled, Shows, SparesStore, TellsFailures, Known, TurnsBetween};
-ghost use Rattle.cs_shell_executor.specs.Works.{WorksOn};
-ghost use Rattle.cs_shell_replies.specs.Replies.{answer_of};
-ghost use Rattle.cs_shell_script.specs.Meant.{LineSays};
 ghost use Rattle.cs_shell_script.specs.Runs.{Runs};
 ghost use Rattle.cs_shell_script.specs.Shells.{RunsShell};
 ghost use Rattle.cs_shell_script.specs.StoreRuns.{HasReply, RunsScript};
 
-use crate::meant::spelled_line;
 use crate::script::{Interpreter, Status, run_interpreter};
 use cs_files::Told;
 use cs_shell_executor::{Workspace, answer_line, check_at_rest_once};
@@ -41,7 +37,7 @@ impl<S: Alter> Interpreter for Shell<'_, S> {
 
     fn answer(&mut self, alloc: Global, line: &[u8]) -> Result<Reply, Refusal> {
         check_at_rest_once(self.store, &mut self.is_at_rest)?;
-        answer_meant(alloc, self.store, self.work, line)
+        answer_line(alloc, self.store, self.work, line)
     }
 
     ghost loses = { λ interpreter line. (
@@ -49,22 +45,6 @@ impl<S: Alter> Interpreter for Shell<'_, S> {
       loses_line (state S.Store interpreter.store.now) interpreter.is_at_rest
           interpreter.work.now line,
     ) };
-}
-
-/// Carries out the line that a line spells, and returns its reply.
-fn answer_meant<S: Alter>(
-    alloc: Global,
-    store: &mut Store<S>,
-    work: &mut Workspace,
-    line: &[u8],
-) -> Result<Reply, Refusal>
-    ensures { WorksOn (state S.Store store.old) (state S.Store store.new) work.old.slots work.new.slots
-        work.old.session work.new.session (λ old. LineSays old line.now) (answer_of result) }
-{
-    match spelled_line(alloc, line)? {
-        Some(bytes) => answer_line(alloc, store, work, &bytes),
-        None => answer_line(alloc, store, work, line),
-    }
 }
 
 /// Runs a script over a store and a workspace.
@@ -87,8 +67,6 @@ fn run_shell<S: Alter, R: Read, W: Write>(
 
 /// Runs a script on a store: reads its lines, answers them, and prints the replies. The lines that were read are
 /// answered before more is read.
-///
-/// `.line` and hexadecimal digits spell the line of these bytes, which can have line feeds.
 ///
 /// A line changes nothing if memory or the database refuses it. Once a failure of the disk has shut the store, each
 /// line that asks for a table is refused. Before the first line an empty batch is begun and dropped. If that fails,

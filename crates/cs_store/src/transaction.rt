@@ -361,7 +361,7 @@ impl<S: Alter> Transaction<S> {
     }
 
     /// Returns a page of the rows of a table, in the order of the bytes of their keys: at most `limit` rows, from the
-    /// first one or from the one after a key, which need not be there. No other rows are read.
+    /// first one or from the one after a key, which need not be there. No other rows are read. `limit` is below 2^63.
     ///
     /// # Errors
     ///

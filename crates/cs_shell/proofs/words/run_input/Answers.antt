@@ -4,7 +4,7 @@ use Rattle.sqlite.specs.Files.{file_state}
 use Rattle.cs_value.specs.State.{State}
 use Rattle.cs_store.specs.Store.{tables_in}
 use Rattle.cs_shell_script.specs.Runs.{Runs}
-use Rattle.cs_shell_script.specs.Meant.{LineSays}
+use Rattle.cs_shell_executor.specs.LineAnswers.{LineGives}
 use Rattle.cs_shell_executor.proofs.TurnLemmas.{resource_of_store}
 use Rattle.cs_shell_script.specs.StoreRuns.{RunsScript, beginning}
 use Rattle.cs_shell.proofs.words.run_input.Goals as goal
@@ -18,7 +18,7 @@ returns-in-Ok-clause-ran g c =
         status = c.run_script-status.result;
         final = ran.last;
         exit_is = c.end_script.ensures.exit;
-        runs = subst (λ (t : State). Runs g.R.Read.remaining g.W.Write.contents LineSays c.run_script-status.result (beginning t) ran.last c.args.input.now c.run_script-status.new.input c.args.out.now c.run_script-status.new.out)
+        runs = subst (λ (t : State). Runs g.R.Read.remaining g.W.Write.contents LineGives c.run_script-status.result (beginning t) ran.last c.args.input.now c.run_script-status.new.input c.args.out.now c.run_script-status.new.out)
             c.in-Ok.ensures.empty ran.runs;
       },
       c.end_script.ensures.told,

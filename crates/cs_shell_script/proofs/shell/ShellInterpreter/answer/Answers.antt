@@ -13,4 +13,4 @@ returns-in_err-check_at_rest_once g c =
 
 pub returns : goal.returns
 returns g c =
-    (refl, line_at_rest (state g.S.Store c.args.self.now.store.now) (state g.S.Store c.check_at_rest_once.new.store) (state g.S.Store c.answer_meant.new.store) c.args.self.now.is_at_rest c.check_at_rest_once.new.is_at_rest c.args.self.now.work.now c.answer_meant.new.work c.args.line.now _ c.in_ok-check_at_rest_once.ensures.at_rest c.check_at_rest_once.ensures.turns c.answer_meant.ensures)
+    (refl, line_at_rest (state g.S.Store c.args.self.now.store.now) (state g.S.Store c.check_at_rest_once.new.store) (state g.S.Store c.answer_line.new.store) c.args.self.now.is_at_rest c.check_at_rest_once.new.is_at_rest c.args.self.now.work.now c.answer_line.new.work c.args.line.now _ c.in_ok-check_at_rest_once.ensures.at_rest c.check_at_rest_once.ensures.turns c.answer_line.ensures)
