@@ -3,23 +3,26 @@
 
 The program has to be built first (`rt run` in crates/changeset_calls).
 """
+import os
 import pathlib
-import re
 import subprocess
 import tempfile
 import unittest
 
 from support.calls import (
-    CALLS_PROGRAM, CHANGESET, DONE, FLAG, LIMITS, MOST_BYTES, NAMES, NUMBER, REFUSED, REPORT, ROW, ROWS, SCHEMA, UNREAD, Host,
-    answer, call, columns, count, frame, frames, row, run, run_bytes, sized, text,
+    CALLS_PROGRAM, CHANGESET, CONFLICTS, DONE, FLAG, LIMITS, MOST_BYTES, NAMES, NUMBER, PATIENCE, REFUSED, REPORT, ROW,
+    ROWS, SCHEMA, UNREAD, call, columns, count, frame, main, row, run, run_bytes, sized, text,
 )
-from support.program import PATIENCE, TOP, TRIES_ALL, main
+from support.documents import blocks_of
+from support.program import TOP
 from support.stores import read_store
 
 TABLE = text("t")
 DECLARE = call("declare", TABLE, columns(("a", 1), ("b", 2)))
 COUNT = call("count", TABLE)
 INSERT_FILE = b"T\x02\x01\x00t\x00\x12\x00\x03\x01p\x03\x01q"
+INSERT_ENTRY = b"\x12\x00\x03\x01m\x03\x01q"
+UPDATE_FILE = b"T\x02\x01\x00t\x00\x17\x00\x03\x01k\x03\x01y\x00\x03\x01z"
 ABORT, OMIT = b"\x02\x02\x02\x02", b"\x00\x00\x00\x00"
 
 
@@ -66,12 +69,17 @@ class CallsTest(unittest.TestCase):
         self.assertEqual(run(store or self.store, asked), (status, list(answered)))
 
     def test_document(self):
-        """The exchange of docs/CALLS.md."""
-        page = (TOP / "docs/CALLS.md").read_text()
-        asked, told = map(bytes.fromhex, re.search(r"```text\n([0-9a-f ]+)\n([0-9a-f ]+)\n```", page).groups())
-        named = call("declare", text("notes"), columns(("a", 1)))
-        ended = run_bytes(self.store, frame(named) + asked)
+        """The frames of docs/CALLS.md are answered as it says, and its call reads three rows after 7."""
+        exchange, called = [text for tag, text in blocks_of(TOP / "docs/CALLS.md") if tag == "text"]
+        asked, told = map(bytes.fromhex, exchange.splitlines())
+        declared = call("declare", text("notes"), columns(("a", 1)))
+        ended = run_bytes(self.store, frame(declared) + asked)
         self.assertEqual((ended.returncode, ended.stdout, ended.stderr), (0, frame(b"\x00") + told, b""))
+        inserted = [call("insert", text("notes"), row([key])) for key in (11, 7, 9, 1, 8, 10)]
+        self.expect([
+            *((insertion, (DONE,)) for insertion in inserted),
+            (bytes.fromhex(called), (ROWS, [(8,), (9,), (10,)], True)),
+        ])
 
     def test_calls(self):
         """Each call has its answer, also on a store in memory."""
@@ -129,22 +137,64 @@ class CallsTest(unittest.TestCase):
             self.assertEqual((ended.returncode, ended.stdout), (1, 2 * frame(b"\x00")))
             self.assertEqual(len(self.rows()), 3)
 
-    def test_kills(self):
-        """A host that is killed leaves what was committed, and the store can be opened again at once."""
-        self.expect([(asked, (DONE,)) for asked in START])
-        with Host(self.store) as host:
-            self.assertEqual(host.ask(insert("n", "o")), (DONE,))
-            self.assertEqual(host.ask(call("begin")), (DONE,))
-            self.assertEqual(host.ask(insert("r", "s")), (DONE,))
-            host.process.kill()
-            host.process.wait(PATIENCE)
-        self.expect([(COUNT, (NUMBER, 3))])
+    def test_choices(self):
+        """Each conflict that a rehearsal finds has its choice, unless the rows have changed since."""
+        conflicts = sized(UPDATE_FILE + INSERT_ENTRY), b"\x00"
+        found = [(0, 1, "t", ("k",), ("k", "x")), (1, 3, "t", ("m",), ("m", "y"))]
+        spelled = [
+            bytes([*bytes(7), at, kind]) + TABLE + row(key) + b"\x01" + row(now) for at, kind, _, key, now in found
+        ]
+        chosen = call("apply_chosen", *conflicts, count(2), spelled[0], b"\x01", spelled[1], b"\x00")
+        self.expect([
+            *((asked, (DONE,)) for asked in START),
+            (call("rehearse", *conflicts), (CONFLICTS, found)),
+            (call("apply", *conflicts, ABORT), refused(41, "t", None, ("k",), 1)),
+            (call("apply_chosen", *conflicts, count(1), spelled[0], b"\x01"), refused(99)),
+            (chosen, (REPORT, 1, 0, [], [(1, 1, "t", ("k",)), (3, 0, "t", ("m",))])),
+            (chosen, refused(99)),
+            (call("apply", *conflicts, OMIT), (REPORT, 0, 0, [], [(1, 0, "t", ("k",)), (3, 0, "t", ("m",))])),
+            (call("revert", sized(INSERT_FILE)), refused(41, "t", None, ("p",), 2)),
+        ])
+        self.assertEqual(self.rows(), [("k", "z"), ("m", "y")])
 
     def test_other_stores(self):
         """Each call on what is no store is refused for that reason."""
+        asked = [COUNT, call("begin"), call("open_session"), call("limits")]
         self.store.write_bytes(b"no database\n" * 100)
-        self.expect([(COUNT, refused(38, detail=26)), (call("begin"), refused(38, detail=26))], status=1)
-        self.assertEqual(run_bytes(self.store.parent / "none/store", frame(COUNT)).returncode, 1)
+        self.expect([(one, refused(38, detail=26)) for one in asked], status=1)
+        self.expect([(one, refused(38, detail=10)) for one in asked], status=1, store=self.store.parent / "none/store")
+
+    def expect_unwritten(self, stdout):
+        """Asserts that no call is carried out after the first answer that cannot be written."""
+        with tempfile.TemporaryDirectory() as folder:
+            ended = subprocess.run(
+                [str(CALLS_PROGRAM), f"{folder}/store"], input=b"".join(map(frame, START)), stdout=stdout,
+                stderr=subprocess.PIPE, timeout=PATIENCE, check=False,
+            )
+            self.assertEqual((ended.returncode, ended.stderr), (1, b""))
+            self.assertEqual(read_store(f"{folder}/store")["t"].rows, [])
+
+    def test_output_that_nobody_reads(self):
+        reading, writing = os.pipe()
+        os.close(reading)
+        with os.fdopen(writing, "wb") as pipe:
+            self.expect_unwritten(pipe)
+
+    @unittest.skipUnless(os.path.exists("/dev/full"), "no /dev/full")
+    def test_output_that_is_full(self):
+        with open("/dev/full", "wb") as full:
+            self.expect_unwritten(full)
+
+    def test_closed_streams(self):
+        """The store is not written to where a standard stream would be."""
+        whole = {"t": [("k", "x"), ("m", "y")]}
+        for closed, tables in (("<&-", {}), ("<&- >&-", {}), (">&-", {"t": []}), ("2>&-", whole)):
+            with self.subTest(closed), tempfile.TemporaryDirectory() as folder:
+                subprocess.run(
+                    ["sh", "-c", f"exec \"$0\" store {closed}", str(CALLS_PROGRAM)], input=b"".join(map(frame, START)),
+                    cwd=folder, stdout=subprocess.DEVNULL, timeout=PATIENCE, check=False,
+                )
+                self.assertEqual({name: it.rows for name, it in read_store(f"{folder}/store").items()}, tables)
 
     def test_usage(self):
         """Without one word there is a text on standard error."""
@@ -153,33 +203,16 @@ class CallsTest(unittest.TestCase):
         self.assertEqual(ended.stderr, b"usage: changeset-calls STORE\n")
 
     def test_lengths(self):
-        """A call that is too long is skipped, and a length that is only claimed takes no memory."""
-        long = b"\x04\x00\x00\x01" + bytes(MOST_BYTES + 1)
-        ended = run_bytes(":memory:", long + frame(call("tables")))
-        answers, rest = frames(ended.stdout)
-        self.assertEqual((ended.returncode, list(map(answer, answers)), rest), (0, [refused(94), (NAMES, [])], b""))
-        claimed = b"\xff\xff\xff\xff" + bytes(100)
-        self.assertEqual(run_bytes(":memory:", claimed).returncode, 1)
-        parts = call("tables") + b"\x07\x01t\xff\xff\xff\x7f"
-        self.assertEqual(run(":memory:", [parts, b"\x07\x01t\x87\xff\xff\xff\x7f"])[1][1][:2], (UNREAD, 1))
+        """A call that is too long is skipped, and the longest one is read."""
+        for size, told in ((MOST_BYTES + 1, refused(94)), (MOST_BYTES, (UNREAD, 92, 1))):
+            asked = [call("tables") + bytes(size - 1), call("tables")]
+            self.expect(list(zip(asked, [told, (NAMES, [])])), store=":memory:")
 
-    def test_damaged(self):
-        """A call of which a byte is another is answered, and in a transaction that is rolled back
-        leaves the store.
-        """
-        asked = []
-        for exchange, _ in EXCHANGES:
-            for place, byte in enumerate(exchange):
-                others = range(256) if TRIES_ALL else {0, 1, 5, 12, 0x7F, 0x80, 0xFF, byte ^ 1}
-                for other in set(others) - {byte}:
-                    asked += [call("begin"), exchange[:place] + bytes([other]) + exchange[place + 1 :], call("roll_back")]
-        self.expect([(one, (DONE,)) for one in START])
-        status, answers = run(self.store, asked)
-        self.assertEqual((status, len(answers)), (0, len(asked)))
-        self.assertEqual(self.rows(), [("k", "x"), ("m", "y")])
+    def test_claims(self):
+        """A count that claims more than there is."""
+        claimed = call("insert", TABLE) + b"\x87\xff\xff\xff\x7f"
+        self.expect([(claimed, (UNREAD, 1, len(claimed)))], store=":memory:")
 
 
 if __name__ == "__main__":
-    if not CALLS_PROGRAM.is_file():
-        raise SystemExit(f"no program at {CALLS_PROGRAM}: build it by `rt run` in crates/changeset_calls")
     main()

@@ -12,6 +12,8 @@ minutes.
 import tempfile
 import unittest
 
+from support.call_trials import RUNS, call_run
+from support.calls import CALLS_PROGRAM
 from support.faults import STORE_SCRIPTS
 from support.power import (
     APPLIES, LARGE_APPLY, LONG_SCRIPT, Disk, Recording, apply_run, counts, found_by, script_run, tried,
@@ -42,9 +44,9 @@ class CutTest(unittest.TestCase):
     def tearDownClass(cls):
         print("{runs} runs, {points} points, {files} files, {opened} opened by the program".format(**counts))
 
-    def record(self, files, words, stdin):
+    def record(self, files, words, stdin, program=None):
         """Records a run, whose files have to be those that its record makes."""
-        recording = Recording(self.shim, files, words, stdin)
+        recording = Recording(self.shim, files, words, stdin, program)
         disk = Disk(recording)
         for event in recording.events:
             disk.take(event)
@@ -55,7 +57,7 @@ class CutTest(unittest.TestCase):
         """Asserts that what is left of a run that is cut is a store with the tables of a line. It
         is one of these.
         """
-        recording = self.record(runs[0].files, runs[0].words, runs[0].stdin)
+        recording = self.record(runs[0].files, runs[0].words, runs[0].stdin, runs[0].program)
         found = [run for run in runs if run.story.printed() == recording.ended[1]]
         self.assertTrue(found, "the model answers otherwise")
         kept = []
@@ -73,6 +75,15 @@ class CutTest(unittest.TestCase):
         for what, lines in STORE_SCRIPTS.items():
             with self.subTest(what):
                 self.expect_store([script_run(lines)], *SHARES)
+
+    @unittest.skipUnless(CALLS_PROGRAM.exists(), "the program changeset-calls is not built")
+    def test_calls(self):
+        """Behind each cut the tables are those that were committed before the call that ran, or those
+        that it committed.
+        """
+        for what, asked in RUNS.items():
+            with self.subTest(what):
+                self.expect_store([call_run(asked)], *SHARES)
 
     def test_long_runs(self):
         """The same of a log that is copied back between lines, and of an apply that is written

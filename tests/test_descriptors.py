@@ -13,6 +13,8 @@ import random
 import tempfile
 import unittest
 
+from support.call_trials import RUNS, FaultyCalls
+from support.calls import CALLS_PROGRAM
 from support.faults import ANSWERS, ONE_BYTE, STORE_SCRIPTS, FileCommand, MarkedScript
 from support.program import TRIES_ALL, main
 from support.trials import COMMANDS, build_shim
@@ -64,6 +66,15 @@ class DescriptorTest(unittest.TestCase):
         for what, lines in STORE_SCRIPTS.items():
             with self.subTest(what):
                 self.expect_ends(MarkedScript(lines))
+
+    @unittest.skipUnless(CALLS_PROGRAM.exists(), "the program changeset-calls is not built")
+    def test_calls(self):
+        """Each call is answered, or refused with 38, which may end its transaction, and the store is as
+        the answers say.
+        """
+        for what, asked in RUNS.items():
+            with self.subTest(what):
+                self.expect_ends(FaultyCalls(asked))
 
     def test_commands(self):
         """Each command succeeds, or reports an error and leaves its files."""

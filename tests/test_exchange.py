@@ -13,14 +13,14 @@ import tempfile
 import unittest
 
 from support import library
-from support.program import PROGRAM, TOP, main
+from support.calls import CALLS_PROGRAM
+from support.program import TOP, main
 
 sys.path.insert(0, str(TOP / "bindings/python"))
 
 import vollikash  # noqa: E402
-from vollikash._lines import spelled, spelled_name  # noqa: E402
 
-os.environ["VOLLIKASH_PROGRAM"] = str(PROGRAM)
+os.environ["VOLLIKASH_CALLS"] = str(CALLS_PROGRAM)
 
 # Tables of one to three columns in the key: a name, the columns, and those of the key in column
 # order.
@@ -83,6 +83,20 @@ class Table:
     def free(self, row):
         """The key of a row, if none has it."""
         return [key for key in [self.key_of(row)] if key not in self.rows]
+
+
+def spelled_name(name):
+    """A name, as SQL has it."""
+    return '"' + name.replace('"', '""') + '"'
+
+
+def spelled(value):
+    """A value, as SQL has it."""
+    if isinstance(value, str):
+        return "'" + value.replace("'", "''") + "'"
+    if isinstance(value, bytes):
+        return f"X'{value.hex()}'"
+    return "NULL" if value is None else str(value)
 
 
 def statement(name, method, *arguments):
@@ -286,7 +300,7 @@ class Exchange(unittest.TestCase):
         self.assertEqual([it[:3] for it in conflicts], [("constraint", "omit", table.name)] * len(conflicts))
         self.assertEqual(len({it.key for it in conflicts}), len(conflicts))
         if conflicts:
-            with self.assertRaisesRegex(vollikash.ConflictError, "error 41 Abort constraint"):
+            with self.assertRaisesRegex(vollikash.ConflictError, "^Abort: a conflict of the kind constraint "):
                 store.apply(recorded)
             self.assertEqual(base.apply(recorded), f"{library.ABORT} 4")
             self.assertEqual(self.assert_same(store, base, table), before)

@@ -15,8 +15,11 @@ import tempfile
 import threading
 import unittest
 
+from support.call_trials import BEGIN, COMMIT, DECLARE, TABLE, insert
+from support.calls import CALLS_PROGRAM, call, count, frame
 from support.program import PATIENCE, PROGRAM, main
 from support.samples import INPUT_FAULT, OUTPUT_FAULT
+from support.service import Service, served
 from support.trials import build_shim
 
 # A script of tables, a changeset and a session: its lines, each with what it prints.
@@ -39,6 +42,11 @@ LINES = (
 SCRIPT = "".join(f"{line}\n" for line, _ in LINES).encode()
 PRINTED = "".join(printed for _, printed in LINES).encode()
 
+# Calls in frames, and the frames of their answers.
+ASKED = b"".join(map(frame, [
+    DECLARE, BEGIN, insert(1, "x"), COMMIT, insert(1, "z"), call("rows", TABLE, b"\x00", count(2)), b"\x63", b"",
+]))
+ANSWERED = served(Service(), ASKED)[0]
 
 
 def printed_for(count):
@@ -63,8 +71,12 @@ def stop_at(count):
     resource.setrlimit(resource.RLIMIT_FSIZE, (count, count))
 
 
+CALLS_WORDS = (str(CALLS_PROGRAM), ":memory:")
+NEEDS_CALLS = unittest.skipUnless(CALLS_PROGRAM.exists(), "the program changeset-calls is not built")
+
+
 class Streams(unittest.TestCase):
-    """Scripts on a store in memory, or in a file."""
+    """Scripts and calls on a store in memory, or in a file."""
 
     @classmethod
     def setUpClass(cls):
@@ -73,7 +85,7 @@ class Streams(unittest.TestCase):
         cls.folder = pathlib.Path(cls.kept.name)
         cls.shim = build_shim(cls.kept.name)
 
-    def run_pieces(self, pieces, failing=None):
+    def run_pieces(self, pieces, failing=None, words=(PROGRAM,)):
         """Runs a script that comes in pieces, where one read fails, from 1; its status, output and
         errors.
         """
@@ -84,7 +96,7 @@ class Streams(unittest.TestCase):
         }
         with os.fdopen(reading, "rb") as stdin:
             child = subprocess.Popen(
-                [PROGRAM], stdin=stdin, stdout=subprocess.PIPE, stderr=subprocess.PIPE,
+                words, stdin=stdin, stdout=subprocess.PIPE, stderr=subprocess.PIPE,
                 env={**os.environ, **(refusing if failing else {})},
             )
         feeding.start()
@@ -106,16 +118,41 @@ class Streams(unittest.TestCase):
             with self.subTest(count=count):
                 self.assertEqual(self.run_pieces(pieces, count + 1), (1, printed_for(count), INPUT_FAULT))
 
+    def run_stopped(self, words, stdin, count):
+        """Runs a program whose output ends after so many bytes; its status, output and errors."""
+        with open(self.folder / "out", "wb") as out:
+            done = subprocess.run(
+                words, input=stdin, stdout=out, stderr=subprocess.PIPE, timeout=PATIENCE,
+                preexec_fn=lambda: stop_at(count),
+            )
+        return done.returncode, (self.folder / "out").read_bytes(), done.stderr.decode()
+
     def test_answers_lines_until_a_write_fails(self):
         for count in range(len(PRINTED) + 1):
-            with self.subTest(count=count), open(self.folder / "out", "wb") as out:
-                done = subprocess.run(
-                    [PROGRAM], input=SCRIPT, stdout=out, stderr=subprocess.PIPE, timeout=PATIENCE,
-                    preexec_fn=lambda: stop_at(count),
-                )
+            with self.subTest(count=count):
                 reported = OUTPUT_FAULT if count < len(PRINTED) else ""
-                self.assertEqual((done.returncode, done.stderr.decode()), (1, reported))
-                self.assertEqual((self.folder / "out").read_bytes(), PRINTED[:count])
+                self.assertEqual(self.run_stopped([PROGRAM], SCRIPT, count), (1, PRINTED[:count], reported))
+
+    @NEEDS_CALLS
+    def test_answers_calls_until_a_read_fails(self):
+        for end in range(len(ASKED) + 1):
+            pieces = [ASKED[i : i + 1] for i in range(end)]
+            with self.subTest(end=end):
+                answered = served(Service(), ASKED[:end])[0]
+                self.assertEqual(self.run_pieces(pieces, end + 1, CALLS_WORDS), (1, answered, ""))
+
+    @NEEDS_CALLS
+    def test_answers_calls_until_a_write_fails(self):
+        for end in range(len(ANSWERED) + 1):
+            with self.subTest(end=end):
+                status = int(end < len(ANSWERED))
+                self.assertEqual(self.run_stopped(CALLS_WORDS, ASKED, end), (status, ANSWERED[:end], ""))
+
+    @NEEDS_CALLS
+    def test_pieces_of_a_call(self):
+        for cuts in ([len(ASKED)], range(1, len(ASKED) + 1), [3, 5, len(ASKED)]):
+            pieces = [ASKED[start:end] for start, end in zip([0, *cuts], cuts)]
+            self.assertEqual(self.run_pieces(pieces, words=CALLS_WORDS), (0, ANSWERED, ""))
 
     @unittest.skipUnless(os.path.exists("/dev/full"), "no /dev/full")
     def test_runs_no_line_after_a_failed_write(self):

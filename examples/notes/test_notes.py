@@ -1,7 +1,7 @@
 #!/usr/bin/env python3
 """Tests of the editor of notes, in a terminal, as a person uses it: keys are typed, and the screen is read.
 
-usage: examples/notes/test_notes.py [PROGRAM], where PROGRAM is the `changeset` program that is built
+usage: examples/notes/test_notes.py [PROGRAM], where PROGRAM is the `changeset-calls` that is built
 """
 import contextlib
 import fcntl
@@ -22,7 +22,7 @@ import unittest
 
 HERE = pathlib.Path(__file__).resolve().parent
 ROOT = HERE.parents[1]
-PROGRAM = ROOT / "crates/changeset/out/changeset"
+PROGRAM = ROOT / "crates/changeset_calls/out/changeset_calls"
 sys.path.insert(0, str(ROOT / "bindings/python"))
 
 import vollikash  # noqa: E402
@@ -386,7 +386,7 @@ class Notes(unittest.TestCase):
         person.type("u")
         person.sees("refused: the program has ended", "2  from elsewhere")
         person.type("u")
-        person.sees("refused: error 41 Abort conflict 'notes'", "to undo: 3")
+        person.sees("refused: Abort: a conflict of the kind conflict in table 'notes', key", "to undo: 3")
         person.type("d", "u")
         person.sees("undo: note 2 deleted", "2  from elsewhere", but=["refused"])
         self.quit(person)
@@ -400,14 +400,14 @@ class Notes(unittest.TestCase):
 
     def test_a_store_that_is_open(self):
         with vollikash.open(self.path):
-            why = "'notes.db' is in use by another program"
-            self.expect_no_editor(f"notes.py: notes.db: error 38 StoreFault: {why}\r\n")
+            why = "'notes.db' is in use by another program or connection"
+            self.expect_no_editor(f"notes.py: notes.db: StoreFault: {why}\r\n")
 
     def test_another_table(self):
         with vollikash.open(self.path) as store:
             store.create("notes", ["a"], key=["a"])
             store.insert("notes", 1)
-        self.expect_no_editor("notes.py: notes.db: error 30 TableExists\r\n")
+        self.expect_no_editor("notes.py: notes.db: TableExists: there is a table 'notes'\r\n")
 
     def test_other_rows(self):
         with vollikash.open(self.path) as store:
@@ -437,5 +437,5 @@ class Notes(unittest.TestCase):
 if __name__ == "__main__":
     if sys.argv[1:2] and not sys.argv[1].startswith("-"):
         PROGRAM = pathlib.Path(sys.argv.pop(1)).resolve()
-    os.environ["VOLLIKASH_PROGRAM"] = str(PROGRAM)
+    os.environ["VOLLIKASH_CALLS"] = str(PROGRAM)
     unittest.main()

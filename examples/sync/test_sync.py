@@ -1,7 +1,7 @@
 #!/usr/bin/env python3
 """Tests of the example that keeps two SQLite databases and a store the same: what it prints, and what it leaves.
 
-usage: examples/sync/test_sync.py [PROGRAM], where PROGRAM is the `changeset` program that is built
+usage: examples/sync/test_sync.py [PROGRAM], where PROGRAM is the `changeset-calls` that is built
 """
 import contextlib
 import os
@@ -20,7 +20,7 @@ sys.path.insert(0, str(ROOT / "bindings/python"))
 import sync  # noqa: E402
 import vollikash  # noqa: E402
 
-PROGRAM = ROOT / "crates/changeset/out/changeset"
+PROGRAM = ROOT / "crates/changeset_calls/out/changeset_calls"
 
 # How many seconds a run may take.
 PATIENCE = 300
@@ -53,7 +53,7 @@ PRINTED = """\
    The three are not the same.
 
 4. The shop's changeset is applied by the hub, with no word about conflicts.
-   Refused, error 41 Abort data 'stock', key (1,): the row differs from the one that was changed there.
+   Refused, Abort: a conflict of the kind data in table 'stock', key (1,): the row differs from the one that was changed there.
    Nothing of it is carried out, the new part neither.
    shop    1 bolt 35  2 nut 80  4 latch 7
    office  1 bolt 45  2 nut 80
@@ -138,7 +138,7 @@ class Sync(unittest.TestCase):
 
     def test_no_program(self):
         self.needs_library()
-        status, _, reported = self.run_example(VOLLIKASH_PROGRAM=str(self.folder / "nothing"))
+        status, _, reported = self.run_example(VOLLIKASH_CALLS=str(self.folder / "nothing"))
         self.assertEqual(status, 1)
         self.assertRegex(reported, r"^sync\.py: .*nothing does not run: .*\n$")
 
@@ -146,5 +146,5 @@ class Sync(unittest.TestCase):
 if __name__ == "__main__":
     if sys.argv[1:2] and not sys.argv[1].startswith("-"):
         PROGRAM = pathlib.Path(sys.argv.pop(1)).resolve()
-    os.environ["VOLLIKASH_PROGRAM"] = str(PROGRAM)
+    os.environ["VOLLIKASH_CALLS"] = str(PROGRAM)
     unittest.main()

@@ -3,12 +3,17 @@ import os
 import pathlib
 import struct
 import subprocess
+import sys
+import unittest
 
-from support.program import PATIENCE, PROGRAM
+from support.program import PROGRAM
 
 CALLS_PROGRAM = pathlib.Path(
-    os.environ.get("VOLLIKASH_CALLS_PROGRAM", PROGRAM.parents[2] / "changeset_calls/out/changeset_calls")
+    os.environ.get("VOLLIKASH_CALLS", PROGRAM.parents[2] / "changeset_calls/out/changeset_calls")
 ).resolve()
+
+# How many seconds a run may take, also of a program that checks itself and is ten times slower.
+PATIENCE = 600
 
 NUMBERS = {
     name: number
@@ -224,3 +229,10 @@ class Host:
         """Sends a call, and returns its answer."""
         self.process.stdin.write(frame(content))
         return answer(self.read(int.from_bytes(self.read(4), "big")))
+
+
+def main():
+    """Runs the suite that is the main module."""
+    if not CALLS_PROGRAM.is_file():
+        sys.exit(f"no program at {CALLS_PROGRAM}: build it by `rt run` in crates/changeset_calls")
+    unittest.main()

@@ -61,15 +61,8 @@ def mark(number):
     return f"feed{number:04x}\n"
 
 
-class MarkedScript(Script):
-    """Lines on a store in a new file, each with a mark behind its answer."""
-
-    def __init__(self, lines):
-        self.asked, self.first = lines, Shell()
-        super().__init__([
-            part for number, line in enumerate(lines)
-            for part in (line, ".load mark " + mark(number).strip(), ".hex mark")
-        ])
+class Reopened:
+    """A trial on a store that the program opens again."""
 
     def left(self, folder):
         """The tables of the store, which the program opens, and leaves. Half a new store is none
@@ -82,9 +75,20 @@ class MarkedScript(Script):
                 tables = super().left(copied)
             except sqlite3.DatabaseError:
                 tables = {}
-        ended = run(folder, self.words, b"")
+        ended = run(folder, self.words, b"", program=self.program)
         again = super().left(folder)
         return tables if ended == (0, "", "") and again == tables else (ended, tables, again)
+
+
+class MarkedScript(Reopened, Script):
+    """Lines on a store in a new file, each with a mark behind its answer."""
+
+    def __init__(self, lines):
+        self.asked, self.first = lines, Shell()
+        super().__init__([
+            part for number, line in enumerate(lines)
+            for part in (line, ".load mark " + mark(number).strip(), ".hex mark")
+        ])
 
     def tables(self, shell):
         """The tables that a shell has, as they are compared."""

@@ -124,6 +124,14 @@ def judged(flags, table):
     return "wider" if len(flags) < len(table.flags) else "compatible"
 
 
+def judged_all(tables, groups):
+    """The judgements of all groups, none of which is `wider`."""
+    judgements = [judged(flags, tables.get(name)) for flags, name, _ in groups]
+    if "wider" in judgements:
+        raise Refusal(b"error 40 Wider %d" % judgements.index("wider"))
+    return judgements
+
+
 def conflict_of(entry, row):
     """The kind of the conflict that an entry meets at the row of its key, or none."""
     operation, _, records = entry
@@ -160,16 +168,14 @@ class Applying:
         self.choices = choices
         self.writes = []
         self.report = []
+        self.skipped = []
         self.ignored = 0
 
     def run(self, groups):
         """Carries the groups out, and answers the lines of the report."""
-        judgements = [judged(flags, self.tables.get(name)) for flags, name, _ in groups]
-        if "wider" in judgements:
-            raise Refusal(b"error 40 Wider %d" % judgements.index("wider"))
-        for judgement, (_, name, _) in zip(judgements, groups):
-            if judgement == "skipped":
-                self.report.append(b"warning 17 skipped " + quoted(name))
+        judgements = judged_all(self.tables, groups)
+        self.skipped = [name for judgement, (_, name, _) in zip(judgements, groups) if judgement == "skipped"]
+        self.report += [b"warning 17 skipped " + quoted(name) for name in self.skipped]
         try:
             for judgement, (_, name, entries) in zip(judgements, groups):
                 if judgement == "compatible":

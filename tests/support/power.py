@@ -97,13 +97,13 @@ class Recording:
     left.
     """
 
-    def __init__(self, shim, files, words, stdin):
+    def __init__(self, shim, files, words, stdin, program=None):
         with tempfile.TemporaryDirectory() as folder, tempfile.TemporaryFile() as record:
             make_files(folder, files)
             self.found = {name: (os.stat(os.path.join(folder, name)).st_ino, files[name]) for name in files}
             self.folder = os.stat(folder).st_ino
             loading = {"LD_PRELOAD": shim, "RECORD_TO": str(record.fileno())}
-            self.ended = run(folder, words, stdin, loading)
+            self.ended = run(folder, words, stdin, loading, program)
             self.left = files_of(folder)
             record.seek(0)
             self.events = read_record(record.read())
@@ -351,11 +351,12 @@ def opened_again(shell):
 
 class Run:
     """A run on the store in a folder: the files that it finds, its words and its script, what the
-    model has, and the version of the store that it finds.
+    model has, the version of the store that it finds, and the program, where it is another one.
     """
 
-    def __init__(self, files, words, stdin, story, version=VERSION):
+    def __init__(self, files, words, stdin, story, version=VERSION, program=None):
         self.files, self.words, self.stdin, self.story, self.version = files, words, stdin, story, version
+        self.program = program
         names = sorted({name for shell in story.shells for name in tables_of(shell)} - {"next"})
         quoted = [name.replace('"', '""') for name in names]
         self.behind = [f'SELECT * FROM "{name}";' for name in quoted] + GOING_ON

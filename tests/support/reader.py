@@ -11,6 +11,7 @@ NAMES = dict(enumerate(
     "Truncated NotTable Patchset BadVarint ColumnCount NoKey BadName DuplicateTable EmptyGroup "
     "BadOp BadFlag BadType RealValue BadText UndefinedField Unpaired NullKey DuplicateKey".split(), 1
 ))
+NAMES.update({90: "BadByte", 91: "UnknownCall", 92: "ExtraBytes"})
 
 
 class Fault(Exception):
@@ -18,6 +19,8 @@ class Fault(Exception):
 
     def __init__(self, number, place):
         super().__init__(f"error {number} {NAMES[number]} {place}")
+        self.number = number
+        self.place = place
 
 
 class Reader:

@@ -1,6 +1,6 @@
 //! Calls on changesets.
 
-use cs_group::{ConcatFault, Merged, concat, invert, merge, number_keys};
+use cs_group::{ConcatFault, Merged, concat, merge, number_keys};
 use cs_value::{NoMemory, OwnedValue, Row};
 use cs_wire::{Change, Changeset, Cursor, Entry, Group, Header, Item, ReadError, read, write};
 use std::alloc::Global;
@@ -12,12 +12,6 @@ const INSERTS: &[u8] =
 /// The UPDATE of that 'x' to 'z', and the INSERT of ('m', NULL).
 const UPDATE: &[u8] =
     b"T\x02\x01\x00t\x00\x17\x00\x03\x01k\x03\x01x\x00\x03\x01z\x12\x00\x03\x01m\x05";
-
-/// Reads a file, and returns how many bytes it is written with.
-pub(crate) fn write_read(alloc: Global) -> Result<usize, ReadError> {
-    let changeset = read(alloc, INSERTS)?;
-    Ok(write(alloc, &changeset)?.len())
-}
 
 /// Goes through the first items of a file, copies each, and returns how many bytes names and keys have.
 pub(crate) fn go_through(alloc: Global) -> Result<usize, ReadError> {
@@ -123,12 +117,6 @@ fn add_second(alloc: Global, group: &mut Group) -> Result<(), NoMemory> {
         group.push(second)?;
     }
     Ok(())
-}
-
-/// Inverts a changeset, and returns how many bytes the inverse is written with.
-pub(crate) fn invert_read(alloc: Global) -> Result<usize, ReadError> {
-    let inverse = invert(alloc, read(alloc, UPDATE)?)?;
-    Ok(write(alloc, &inverse)?.len())
 }
 
 /// Numbers the keys of a changeset, and returns how many bytes it is written with.

@@ -1,10 +1,10 @@
-//! Calls of the libraries for tests that refuse memory. Hosts make them, and most are made by no line of a script. Each
-//! word names some, and they are made in turn. A line says what each answers, as a number, or that memory was refused.
+//! Calls of the libraries for tests that refuse memory. Hosts in Rattle make them, and no program of this repository
+//! does. Each word names some, and they are made in turn. A line says what each answers, as a number, or that memory
+//! was refused.
 #![tactic(auto)]
 
 mod changes;
 mod rows;
-mod values;
 
 use crate::rows::TestRows;
 use cs_value::{Fault, NoMemory};
@@ -24,15 +24,11 @@ pub(crate) fn told<E: Fault + Drop>(answer: Result<usize, E>) -> Result<usize, N
 /// Makes the calls of a word.
 fn answer(alloc: Global, rows: &mut TestRows, word: &str) -> Result<usize, NoMemory> {
     match word {
-        "row" => values::copy_row(alloc),
-        "image" => told(values::copy_image(alloc)),
-        "read" => told(changes::write_read(alloc)),
         "cursor" => told(changes::go_through(alloc)),
         "claim" => told(changes::read_claim(alloc)),
         "copy" => told(changes::copy_groups(alloc)),
         "push" => told(changes::add_entry(alloc)),
         "group" => changes::make_group(alloc),
-        "invert" => told(changes::invert_read(alloc)),
         "number" => told(changes::number_read(alloc)),
         "concat" => told(changes::join_read(alloc)),
         "merge" => changes::merge_two(alloc),
