@@ -71,7 +71,7 @@ class CutTest(unittest.TestCase):
                 self.expect_store(others, most, opened, 0)
 
     def test_scripts(self):
-        """Behind each cut the tables are those from before the line that ran, or from behind it."""
+        """After each cut the tables are those from before the line that ran, or from behind it."""
         for what, lines in STORE_SCRIPTS.items():
             with self.subTest(what):
                 self.expect_store([script_run(lines)], *SHARES)

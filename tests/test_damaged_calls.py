@@ -64,7 +64,7 @@ def damaged(content, values=range(256)):
 
 
 class DamageTest(unittest.TestCase):
-    """Calls and frames of which a byte is another."""
+    """Calls and frames in which a byte is changed."""
 
     def setUp(self):
         folder = tempfile.TemporaryDirectory()

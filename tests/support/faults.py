@@ -81,7 +81,7 @@ class Reopened:
 
 
 class MarkedScript(Reopened, Script):
-    """Lines on a store in a new file, each with a mark behind its answer."""
+    """Lines on a store in a new file, each with a mark after its answer."""
 
     def __init__(self, lines):
         self.asked, self.first = lines, Shell()

@@ -125,7 +125,7 @@ def judged(flags, table):
 
 
 def judged_all(tables, groups):
-    """The judgements of all groups, none of which is `wider`."""
+    """The judgements of all groups. A wider table is refused."""
     judgements = [judged(flags, tables.get(name)) for flags, name, _ in groups]
     if "wider" in judgements:
         raise Refusal(b"error 40 Wider %d" % judgements.index("wider"))
