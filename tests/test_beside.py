@@ -464,7 +464,7 @@ class Surroundings(NextTest):
         self.assertEqual(list(store.rows("t")), [(1, "y"), (2, b"\x00\xff")])
         self.assertRaises(vollikash.ConflictError, store.apply, changes)
         self.assertEqual(store.revert(changes).applied, 2)
-        self.assertRaisesRegex(vollikash.StoreError, "33 KeyTaken", store.insert, "t", 1, "again")
+        self.assertRaises(vollikash.KeyTaken, store.insert, "t", 1, "again")
         store.insert("t", 3, None)
 
     def times_of(self, store):
@@ -500,7 +500,9 @@ class Refusals(NextTest):
         for words, stdin in ((SHELL, b""), (SHELL, script), (APPLY, b"")):
             self.assertEqual(self.run_program(*words, stdin=stdin), (1, "", line), words)
             self.assertEqual(look(), found, words)
-        self.assertRaisesRegex(vollikash.StoreError, line.strip(), vollikash.open, self.path)
+        with self.assertRaises(vollikash.StoreError) as caught:
+            vollikash.open(self.path)
+        self.assertEqual(f"error {caught.exception.code:d} {caught.exception.name}\n", line)
         self.assertEqual(look(), found)
 
     def expect_each(self, refused, line, *places, whole=True):

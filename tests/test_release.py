@@ -60,7 +60,10 @@ OF_COMMAND = {
 }
 COMMAND_FILES = {target for source, target in OF_COMMAND.items() if (TOP / source).exists()}
 
-WHERE = "from vollikash import _files, _process; print(_files._find(), _process.find_program(), sep='\\n')"
+WHERE = """\
+from vollikash import _files, _process
+print(_files._find(), _process.find_program(), _process.find_program("changeset", "VOLLIKASH_PROGRAM"), sep="\\n")
+"""
 
 
 def environment(*folders, **others):
@@ -283,7 +286,8 @@ class Wheel(unittest.TestCase):
         """The whole package is installed, and what it calls is found next to it."""
         printed = run(release().python, "-c", WHERE).splitlines()
         (package,) = release().environment.glob("lib/python*/site-packages/vollikash")
-        self.assertEqual(printed, [str(package / "libvollikash.so"), str(package / "changeset")])
+        found = ("libvollikash.so", "changeset-calls", "changeset")
+        self.assertEqual(printed, [str(package / name) for name in found])
         self.assertEqual(files_below(package), files_below(PACKAGE) | {"libvollikash.so", "changeset", "changeset-calls"})
 
     def test_commands(self):
@@ -419,7 +423,8 @@ class Editable(unittest.TestCase):
             self.assertEqual(printed, f"{PACKAGE / '__init__.py'}\n")
             if IS_BUILT:
                 found = run(python, "-c", WHERE, cwd=folder).splitlines()
-                self.assertEqual(found, [str(TOP / "bindings/c/out/libvollikash.so"), str(dist.PROGRAM)])
+                built = (TOP / "bindings/c/out/libvollikash.so", dist.CALLS, dist.PROGRAM)
+                self.assertEqual(found, list(map(str, built)))
             commands = [name for name in ("changeset", "changeset-calls", "vollikash") if pathlib.Path(folder, "bin", name).exists()]
             self.assertEqual(commands, ["vollikash"])
         self.assertEqual(sorted(PACKAGE.parent.iterdir()), before)

@@ -28,7 +28,7 @@ import unittest.mock
 
 import vollikash
 from vollikash import UNDEFINED, Builder, ChangesetError, Code, sqlite
-from vollikash._command import _messages, _parser, _progress, _shell, _texts
+from vollikash._command import _lines, _messages, _parser, _progress, _texts
 
 HERE = pathlib.Path(__file__).resolve().parent
 TOP = HERE.parent.parent
@@ -57,7 +57,7 @@ def setUpModule():
 
 def environment(**changed):
     """The variables for a run."""
-    names = ("NO_COLOR", "VOLLIKASH_PROGRAM", "PYTHONPATH", "TERM")
+    names = ("NO_COLOR", "VOLLIKASH_PROGRAM", "VOLLIKASH_CALLS", "PYTHONPATH", "TERM")
     kept = {name: value for name, value in os.environ.items() if name not in names}
     path = os.pathsep.join(filter(None, [str(HERE), os.environ.get("PYTHONPATH")]))
     ours = {"VOLLIKASH_PROGRAM": str(PROGRAM), "PYTHONPATH": path, "TERM": "xterm"}
@@ -186,6 +186,7 @@ class Words(Folder):
         for words in (
             [], ["none"], ["show"], ["show", "-", "-"], ["concat", "-", "a", "-"], ["invert", "a", "b"],
             ["select", "a"], ["apply", "a"], ["apply", "a", "s", "--data", "none"], ["show", ""],
+            ["apply", "a", "s", "--notfound", "replace"], ["apply", "a", "s", "--constraint", "replace"],
             ["show", "--js", "a"], ["shell"], ["shell", "s", "t"], ["invert", "a", "--output"],
         ):
             with self.subTest(words=words):
@@ -362,6 +363,24 @@ class Looking(Folder):
         status, printed, said = self.run_text("show", "--schema", "notes.db", "a.cs")
         self.assertEqual((status, said), (0, ""))
         self.assertIn("update notes[id=3] text='a' -> 'b'\n", printed)
+
+    def test_names_of_other_files(self):
+        """Ordinary tables of a store, those of a database with a table `rec` of its own, and a store that is open."""
+        self.make("a.cs", made_up(1))
+        create = "CREATE TABLE notes(id INTEGER PRIMARY KEY, text, label)"
+        name = self.database(create, "CREATE TABLE rec(own)")
+        self.assertIn("insert notes[id=7] text='it''s'", self.run_text("show", "--schema", name, "a.cs")[1])
+        (self.folder / name).unlink()
+        with vollikash.open(self.folder / self.database(create)) as store:
+            store.create("two words", ["one", "two"], key=["one", "two"])
+        status, printed, said = self.run_text("show", "--schema", name, "a.cs")
+        self.assertEqual((status, said), (0, ""))
+        self.assertIn("insert notes[id=7] text='it''s'", printed)
+        self.assertIn("insert \"two words\"[one=0, two='x']\n", printed)
+        with vollikash.open(self.folder / name):
+            status, printed, said = self.run_text("show", "--schema", name, "a.cs")
+        self.assertEqual((status, printed), (1, ""))
+        self.assertRegex(said, r"\Aapp\.db: .*(database is locked|is in use by another program)")
 
     def test_schema_that_is_none(self):
         self.make("a.cs", made_up(1))
@@ -742,21 +761,31 @@ class Applies(Folder):
         self.store((1, "x"), (2, "gone"))
         self.expect(["apply", "-", name], wanted, given=self.data)
 
+    def test_choices(self):
+        """The help of an option has the choices that it takes."""
+        printed = re.sub(r"\s+", " ", self.run_text("apply", "--help")[1])
+        for kind in ("data", "conflict"):
+            self.assertIn(f"--{kind} C omit, replace or abort (default): ", printed)
+        for kind in ("notfound", "constraint"):
+            self.assertIn(f"--{kind} C omit or abort (default): ", printed)
+
     def test_new_store(self):
-        """A store that is made is named, and a damaged file or - makes none."""
-        for name, said in (
-            ("new.db", "new.db: a new store is made\n"),
-            ("app.db", "app.db: the database becomes a store, by a table rec\n"),
+        """A store that is made is named. A damaged file, - and a word without --create make none."""
+        self.make("cut.cs", self.data[:-1])
+        self.expect(["apply", "a.cs", "new.db"], "", "new.db: there is no such store. --create makes it\n", 1)
+        self.assertEqual(self.run_text("apply", "--create", "cut.cs", "new.db")[0], 1)
+        self.assertEqual(self.run_text("apply", "--create", "a.cs", "-")[0], 2)
+        self.assertEqual(sorted(os.listdir(self.folder)), ["a.cs", "cut.cs"])
+        with contextlib.closing(sqlite3.connect(self.folder / "app.db")) as base:
+            base.execute("CREATE TABLE own(a)")
+        for name, words, said in (
+            ("new.db", ["--create"], "new.db: a new store is made\n"),
+            ("app.db", [], "app.db: the database becomes a store, by a table rec\n"),
         ):
-            with contextlib.closing(sqlite3.connect(self.folder / "app.db")) as base:
-                base.execute("CREATE TABLE IF NOT EXISTS own(a)")
-            self.make("cut.cs", self.data[:-1])
             self.assertEqual(self.run_text("apply", "cut.cs", name)[0], 1)
-            status, printed, reported = self.run_text("apply", "a.cs", name)
+            status, printed, reported = self.run_text("apply", "a.cs", name, *words)
             self.assertEqual((status, printed.splitlines()[-1], reported), (0, "applied 0", said))
-            self.assertEqual(self.run_text("apply", "a.cs", name)[2], "")
-        self.assertEqual(self.run_text("apply", "a.cs", "-")[0], 2)
-        self.assertFalse((self.folder / "-").exists())
+            self.assertEqual(self.run_text("apply", "a.cs", name, *words)[2], "")
 
     def test_report(self):
         """The lines of the program, each with the key and the reason."""
@@ -788,10 +817,6 @@ class Applies(Folder):
             "a.cs: error 41 Abort data 't': key 1: the row differs from the old one of the change. "
             "Nothing is changed.\n"
         ), 1)
-        self.expect(["apply", "a.cs", name, "--data", "omit", "--notfound", "replace"], "", (
-            "a.cs: error 42 Misuse notfound 't': key 2: the row of the change does not exist, and "
-            "cannot be replaced. Choose omit or abort. Nothing is changed.\n"
-        ), 1)
         self.make("cut.cs", self.data[:-1])
         status, printed, said = self.run_text("apply", "cut.cs", name)
         self.assertEqual((status, printed), (1, ""))
@@ -799,15 +824,24 @@ class Applies(Folder):
         self.assertEqual(self.rows(), [(1, "other")])
         self.make("text", b"no store, but a text that is long enough to be looked at " * 40)
         (self.folder / "folder").mkdir()
-        for other, why in (("text", "not a SQLite database"), ("folder", "is a folder")):
+        for other, why in (("text", "not a SQLite database that can be a store"), ("folder", "a folder")):
             status, printed, said = self.run_text("apply", "a.cs", other)
             self.assertEqual((status, printed), (1, ""))
-            self.assertRegex(said, rf"\A{other}: error 38 StoreFault: '{other}' is .*{why[-8:]}\n\Z")
+            self.assertEqual(said, f"{other}: error 38 StoreFault: '{other}' is {why}\n")
+
+    def test_paths_that_are_none(self):
+        """They are refused without a traceback."""
+        os.mkdir(os.path.join(os.fsencode(self.folder), b"\xff"))
+        name = os.fsdecode(b"\xff/s.db")
+        for words in (["apply", "--create", "a.cs", name], ["shell", name]):
+            status, printed, said = self.run_text(*words)
+            self.assertEqual((status, printed), (1, ""))
+            self.assertRegex(said, r"\A\\udcff/s\.db: the path .* is not UTF-8\n\Z")
 
     def test_program_that_is_missing(self):
         done = subprocess.run(
-            [*WORDS, "apply", "a.cs", "s.db"], cwd=self.folder, capture_output=True, text=True,
-            env=environment(VOLLIKASH_PROGRAM="no program"), timeout=PATIENCE,
+            [*WORDS, "apply", "--create", "a.cs", "s.db"], cwd=self.folder, capture_output=True, text=True,
+            env=environment(VOLLIKASH_CALLS="no program"), timeout=PATIENCE,
         )
         self.assertEqual((done.returncode, done.stdout, done.stderr), (
             1, "", "s.db: no program does not run: No such file or directory\n"
@@ -961,15 +995,16 @@ class Shells(Folder):
             store.create("t", ["a"], key=["a"])
             status, printed, said = self.run_text("shell", "s.db")
         self.assertEqual((status, printed), (1, ""))
-        self.assertRegex(said, r"\As\.db: error 38 StoreFault: 's\.db' is in use by (process \d+|another program)\n\Z")
+        self.assertEqual(said, "s.db: error 38 StoreFault: 's.db' is in use by another program or connection\n")
 
     def test_lines_that_are_too_many(self):
         """After the lines that a program takes, an error is printed for each."""
-        shell = _shell._Store(":memory:", PATIENCE)
-        self.addCleanup(shell.close)
-        shell._process.left = 5000
-        self.assertEqual(shell.answer(".hex a"), "error 62 EmptySlot\n")
-        self.assertEqual(shell.answer(".load a " + "00" * 2000), "error 63 ScriptTooLong\n")
+        with unittest.mock.patch.dict(os.environ, VOLLIKASH_PROGRAM=str(PROGRAM)):
+            program = _lines.LineProgram(":memory:")
+        self.addCleanup(program.close)
+        program.left = 1000
+        self.assertEqual(program.answer(".hex a"), "error 62 EmptySlot\n")
+        self.assertEqual(program.answer(".load a " + "00" * 500), "error 63 ScriptTooLong\n")
 
 
 @unittest.skipUnless(find_chromium(), "no Chromium")
@@ -1179,5 +1214,4 @@ class Described(unittest.TestCase):
 
 
 if __name__ == "__main__":
-    os.environ["VOLLIKASH_PROGRAM"] = str(PROGRAM)
     unittest.main()

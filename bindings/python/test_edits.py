@@ -1,22 +1,20 @@
 #!/usr/bin/env python3
-"""Tests of edits that are changesets, and of reads of a store: texts with line feeds, many rows,
-transactions, schemas and single rows. The program is the one that is built.
+"""Tests of edits and reads of a store: texts, many rows, transactions, schemas, conflicts, undo and
+ordinary databases. The program is the one that is built.
 
-usage: bindings/python/test_edits.py [PROGRAM]
+usage: bindings/python/test_edits.py [PROGRAM], where PROGRAM is `changeset-calls`
 """
+import asyncio
 import contextlib
 import enum
-import functools
 import itertools
 import os
 import pathlib
 import random
 import sqlite3
-import subprocess
 import sys
 import tempfile
 import threading
-import time
 import unittest
 import unittest.mock
 
@@ -24,7 +22,7 @@ import vollikash
 from vollikash import UNDEFINED, ChangesetError, ConflictError, Schema, StoreError
 
 HERE = pathlib.Path(__file__).resolve().parent
-PROGRAM = HERE.parents[1] / "crates/changeset/out/changeset"
+PROGRAM = HERE.parents[1] / "crates/changeset_calls/out/changeset_calls"
 sys.path.insert(0, str(HERE.parents[1] / "tests"))
 
 from support import model, reader, stores  # noqa: E402
@@ -37,20 +35,11 @@ SCHEMAS = {
     "k": Schema(("a",), ("a",), ()),
 }
 
-# The few values of made-up edits. A tilde becomes a line feed in one of two stores.
-VALUES = (0, 1, -1, "x", "x~", "~", "1", b"1", None)
+# The few values of made-up edits.
+VALUES = (0, 1, -1, "x", "x\n", "\n", "1", b"1", None)
 
 # How many seeds are tried, and how many edits of each.
 SEEDS, EDITS = 25, 40
-
-
-def with_feeds(value):
-    """A value with line feeds for its tildes, in whatever it is."""
-    if isinstance(value, str):
-        return value.replace("~", "\n")
-    if isinstance(value, dict):
-        return {name: with_feeds(one) for name, one in value.items()}
-    return tuple(map(with_feeds, value)) if isinstance(value, tuple) else value
 
 
 def made_up_edit(chance):
@@ -69,7 +58,7 @@ def made_up_edit(chance):
         return method, table, where
     names = chance.sample(schema.columns, chance.randint(1, len(schema.columns)))
     values = {name: row[name] for name in names}
-    return method, table, values if chance.random() < 0.97 else {"z": "~"}, where
+    return method, table, values if chance.random() < 0.97 else {"z": "\n"}, where
 
 
 def made(store, edit):
@@ -107,7 +96,8 @@ class Folder(unittest.TestCase):
         """Expect that a call is refused by an error of this name."""
         with self.subTest(name, arguments=arguments), self.assertRaises(StoreError) as caught:
             call(*arguments)
-        self.assertEqual(caught.exception.name, name)
+        self.assertEqual((caught.exception.name, type(caught.exception).__name__), (name, name))
+        return caught.exception
 
 
 class Texts(Folder):
@@ -129,7 +119,7 @@ class Texts(Folder):
             self.assertEqual(store.get("t", "a\nb"), ("a\nb", 7))
 
     def test_refusals(self):
-        """They are those of edits without line feeds, in the same order."""
+        """They come in an order."""
         with self.store() as store:
             store.insert("t", 1, "\n")
             store.insert("u", 1, "\n", 2)
@@ -152,17 +142,6 @@ class Texts(Folder):
                 with self.subTest(value=value), self.assertRaises(ValueError):
                     store.insert("t", "\n", value)
             self.assertEqual(set(store.rows("t")), {(1, "\n"), (2, 2)})
-
-    def test_each_edit(self):
-        """Edits with line feeds do what the same edits without do."""
-        for seed in range(SEEDS):
-            chance = random.Random(seed)
-            with self.subTest(seed), self.store() as plain, self.store() as fed:
-                for _ in range(EDITS):
-                    edit = made_up_edit(chance)
-                    self.assertEqual(made(fed, with_feeds(edit)), made(plain, edit), edit)
-                rows = {name: set(map(with_feeds, rows)) for name, rows in rows_of(plain).items()}
-                self.assertEqual(rows_of(fed), rows)
 
     def test_session(self):
         """A session records them."""
@@ -285,22 +264,11 @@ class Reads(Folder):
             self.assertEqual(store.get("u", 1, bytearray(b"1")), (1, "x", b"1"))
             self.assertIsNone(store.get("u", "1", 1))
             self.expect("NoTable", store.get, "v", 1)
-            with self.assertRaisesRegex(ValueError, "table 'u': the key is a, c, and 1 values are given"):
-                store.get("u", 1)
-            for key in ((1,), (1, 2, 3), (), (1, 1.0), (True, "1")):
+            for key in ((1,), (1, 2, 3), ()):
+                self.expect("RowWidth", store.get, "u", *key)
+            for key in ((1, 1.0), (True, "1")):
                 with self.subTest(key=key), self.assertRaises(ValueError):
                     store.get("u", *key)
-
-    def test_programs_that_stopped(self):
-        """What a killed program has left is read by the next one first."""
-        path = self.folder / "store"
-        store = self.store(path)
-        store.insert("t", 1, "x")
-        os.kill(store._process._process.pid, 9)
-        store.close()
-        with vollikash.open(path) as store:
-            self.assertEqual((store.tables(), list(store.rows("t"))), (["k", "t", "u"], [(1, "x")]))
-        self.assertEqual([name for name in os.listdir(self.folder) if name.endswith("-shm")], [])
 
     def test_other_files(self):
         """A file that is no store is refused as before."""
@@ -309,13 +277,6 @@ class Reads(Folder):
             path.write_bytes(content)
             with contextlib.suppress(StoreError), vollikash.open(path) as store:
                 self.assertEqual((content, store.tables()), (b"", []))
-        with sqlite3.connect(self.folder / "other") as base:
-            base.execute("CREATE TABLE rec(tab, keyb, rowb)")
-            base.execute("INSERT INTO rec VALUES('', 7, 'x')")
-        base.close()
-        self.expect("DamagedStore", vollikash.open, self.folder / "other")
-        with self.store(self.folder / "open"):
-            self.expect("StoreFault", vollikash.open, self.folder / "open")
 
 
 class Transactions(Folder):
@@ -334,11 +295,12 @@ class Transactions(Folder):
             self.assertEqual(list(store.rows("k")), [(1,)])
 
     def test_exceptions(self):
-        """Nothing is carried out."""
+        """Nothing of the block is carried out. A refused call leaves the transaction open."""
         with self.store() as store:
-            with self.assertRaises(KeyError), store.transaction():
-                store.insert("t", 1, "x")
-                raise KeyError
+            for error in (KeyError, KeyboardInterrupt, SystemExit):
+                with self.assertRaises(error), store.transaction():
+                    store.insert("t", 1, "x")
+                    raise error
             with self.assertRaises(StoreError), store.transaction():
                 store.insert("t", 1, "x")
                 store.insert("t", 1, "y")
@@ -347,51 +309,157 @@ class Transactions(Folder):
             with store.transaction():
                 store.insert("t", 2, "y")
                 self.expect("KeyTaken", store.insert, "t", 2, "z")
+                self.expect("NoTable", store.insert, "v", 2, "z")
             self.assertEqual(list(store.rows("t")), [(1, "x"), (2, "y")])
 
     def test_each_block(self):
-        """A block does what its edits do one by one, or nothing if one is refused."""
+        """Edits do in a block what they do one by one."""
         refused = 0
-        for seed in range(8 * SEEDS):
+        for seed in range(SEEDS):
             chance = random.Random(seed)
-            before = [made_up_edit(chance) for _ in range(12)]
-            before = [edit for edit in before if edit[0] == "insert"]
-            edits = [made_up_edit(chance) for _ in range(chance.randint(1, 5))]
             with self.subTest(seed), self.store() as single, self.store() as block:
-                for edit in before:
-                    self.assertEqual(made(block, edit), made(single, edit))
-                former = rows_of(block)
-                wanted = next(filter(None, (made(single, edit) for edit in edits)), None)
-                self.assertEqual(self.ended(block, edits, single), wanted is None)
-                self.assertEqual(rows_of(block), former if wanted else rows_of(single))
-                refused += wanted is not None
+                for _ in range(EDITS // 10):
+                    edits = [made_up_edit(chance) for _ in range(10)]
+                    former, is_kept = rows_of(block), chance.random() < 0.7
+                    with contextlib.suppress(KeyError), block.transaction():
+                        for edit in edits:
+                            wanted = made(single, edit) if is_kept else None
+                            found = made(block, edit)
+                            refused += found is not None
+                            self.assertEqual(found, wanted if is_kept else found)
+                        seen = rows_of(block)
+                        if not is_kept:
+                            raise KeyError
+                    self.assertEqual(rows_of(block), seen if is_kept else former)
+                    self.assertEqual(rows_of(block), rows_of(single))
         self.assertGreater(refused, SEEDS)
-        self.assertLess(refused, 7 * SEEDS)
 
-    def ended(self, store, edits, single):
-        """Makes edits in a transaction. Returns whether it was carried out."""
-        try:
-            with store.transaction():
-                for method, *arguments in edits:
-                    getattr(store, method)(*arguments)
-                seen = rows_of(store)
-        except StoreError:
-            return False
-        self.assertEqual(seen, rows_of(single))
-        return True
-
-    def test_what_is_not_in_a_block(self):
+    def test_calls_of_a_block(self):
+        """Each but those of sessions is part of the transaction."""
         with self.store() as store:
+            with store.session("t") as session:
+                store.insert("t", 1, "x")
+                file = session.changeset()
+            for is_kept in (False, True):
+                with contextlib.suppress(KeyError), store.transaction():
+                    self.assertEqual(store.revert(file).applied, 1)
+                    store.create("v", ["a", "b"], key=["a"], exist_ok=True)
+                    store.insert_many("v", [(1, 2), (3, 4)])
+                    store.update("v", {"b": 5}, where={"a": 1})
+                    store.put("v", 3, 6)
+                    self.assertEqual(store.apply(file).applied, 1)
+                    report = store.apply(file, on_conflict=lambda conflict: "replace")
+                    self.assertEqual(report.conflicts[0].key, (1,))
+                    self.assertEqual((store.count("v"), store.get("v", 1)), (2, (1, 5)))
+                    self.assertEqual(store.tables(), ["k", "t", "u", "v"])
+                    self.assertEqual(list(store.rows("v", after=1)), [(3, 6)])
+                    with self.assertRaisesRegex(RuntimeError, "a transaction is open"), store.transaction():
+                        self.fail("a block in the block")
+                    for call in (lambda: store.session("t"), session.undo, store.undo_stack("t").action().__enter__):
+                        with self.assertRaises((vollikash.TransactionOpen, vollikash.NoSession)):
+                            call()
+                    if not is_kept:
+                        raise KeyError
+                self.assertEqual(store.tables(), ["k", "t", "u", "v"] if is_kept else ["k", "t", "u"])
+            self.assertEqual(list(store.rows("v")), [(1, 5), (3, 6)])
+
+    def test_tables_of_a_block(self):
+        """What is known of a table is not kept after a block, nor after a create."""
+        with self.store() as store:
+            with contextlib.suppress(KeyError), store.transaction():
+                self.expect("NoTable", store.delete, "v", {"a": 1})
+                store.create("v", ["a"], key=["a"])
+                store.insert("v", 1)
+                store.delete("v", {"a": 1})
+                raise KeyError
+            self.expect("NoTable", store.delete, "v", {"a": 1})
+            store.create("v", ["b", "a"], key=["b"])
+            self.expect("UnknownColumn", store.delete, "v", {"a": 1})
+
+    def test_sessions_of_a_block(self):
+        """A session that is open cannot be used in a block."""
+        with self.store() as store, store.session("t") as session:
             with store.transaction():
+                store.insert("t", 1, "x")
                 for call in (
-                    lambda: store.create("v", ["a"], key=["a"]), lambda: store.apply(b""),
-                    lambda: store.revert(b""), lambda: store.session("t"),
-                    lambda: store.transaction().__enter__(), lambda: store.apply(bytes(9_000_000)),
+                    session.undo, session.changeset, session.is_empty, session.close, lambda: session.attach("k"),
                 ):
-                    with self.assertRaises(RuntimeError):
-                        call()
-                store.insert("t", 1, 1)
-            self.assertEqual(list(store.rows("t")), [(1, 1)])
+                    self.expect("TransactionOpen", call)
+            self.assertEqual(session.undo().applied, 1)
+
+    def test_closed_in_a_block(self):
+        """The transaction is rolled back."""
+        path = self.folder / "store"
+        store = self.store(path)
+        with self.assertRaisesRegex(vollikash.ProgramError, "the store is closed"), store.transaction():
+            store.insert("t", 1, "x")
+            store.close()
+        with self.assertRaises(KeyError), vollikash.open(path) as store, store.transaction():
+            store.insert("t", 1, "x")
+            store.close()
+            raise KeyError
+        with vollikash.open(path) as store:
+            self.assertEqual(list(store.rows("t")), [])
+
+    def answering(self, *exchanges):
+        """An open store whose program answers so, each the number of a call and an answer."""
+        path = self.folder / "program"
+        path.write_text(f"""#!{sys.executable}
+import os, sys
+for number, answer in ((24, "0a00000000000000010000000004000000"), *{exchanges!r}):
+    frame = sys.stdin.buffer.read(int.from_bytes(sys.stdin.buffer.read(4), "big"))
+    if frame[:1] != bytes([number]):
+        sys.exit(f"call {{frame.hex()}}, and not {{number}}")
+    content = bytes.fromhex(answer)
+    os.write(1, len(content).to_bytes(4, "big") + content)
+if sys.stdin.buffer.read():
+    sys.exit("another call")
+""")
+        path.chmod(0o755)
+        with unittest.mock.patch.dict(os.environ, VOLLIKASH_CALLS=str(path)):
+            store = vollikash.open(":memory:")
+        self.addCleanup(store.close)
+        return store
+
+    def test_ended_transactions(self):
+        """An error can end a transaction, and a roll back is tried again if memory runs out."""
+
+        def refused(number):
+            return f"0b{number:016x}00000000"
+
+        store = self.answering(
+            (11, "00"), (7, refused(60)), (7, refused(97)), (12, refused(97)), (13, refused(96)), (1, "0100"),
+        )
+        with self.assertRaises(vollikash.TransactionEnded), store.transaction():
+            with self.assertRaises(MemoryError):
+                store.insert("t", 1)
+            self.expect("TransactionEnded", store.insert, "t", 1)
+        self.assertEqual(store.tables(), [])
+        store = self.answering((11, "00"), (12, refused(60)), (13, refused(60)), (13, "00"), (1, "0100"))
+        with self.assertRaises(MemoryError), store.transaction():
+            pass
+        self.assertEqual(store.tables(), [])
+        store = self.answering((11, "00"), (7, refused(37)), (13, refused(60)), (13, refused(60)), (13, refused(60)))
+        with self.assertRaises(vollikash.DamagedStore), store.transaction():
+            store.insert("t", 1)
+        with self.assertRaisesRegex(vollikash.ProgramError, "the store is closed"):
+            store.tables()
+
+    def test_rows_that_are_taken_back(self):
+        """If rows of a block cannot be taken back, the transaction is."""
+        taken = f"0b{33:016x}01017400010101{1:016x}00"
+        done = (7, "00"), (7, taken), (2, "0201016103")
+        store = self.answering((11, "00"), *done, (9, "00"), (12, "00"))
+        with store.transaction():
+            self.assertEqual(self.expect("KeyTaken", store.insert_many, "t", [(1,), (1,)]).row, 2)
+        store = self.answering((11, "00"), *done, (9, f"0b{97:016x}00000000"), (13, "00"))
+        with self.assertRaises(vollikash.KeyTaken), store.transaction():
+            store.insert_many("t", [(1,), (1,)])
+        store = self.answering((11, "00"), *done, (9, f"0b{60:016x}00000000"))
+        with self.assertRaises(MemoryError), store.transaction():
+            store.insert_many("t", [(1,), (1,)])
+        with self.assertRaisesRegex(vollikash.ProgramError, "the store is closed"):
+            store.tables()
 
     def test_session(self):
         with self.store() as store, store.session("t", "k") as session:
@@ -413,6 +481,49 @@ class Transactions(Folder):
                 store.insert("t", 1, "block")
             other.join(60)
             self.assertEqual(list(store.rows("t")), [(1, "block"), (2, "other")])
+
+
+    def test_tasks(self):
+        """Another task of the thread gets an error at once, and a thread of it waits."""
+
+        async def block(store, begun, going):
+            with store.transaction():
+                store.insert("t", 1, "block")
+                begun.set()
+                await going.wait()
+                store.insert("t", 2, "block")
+
+        async def other(store, begun, going):
+            await begun.wait()
+            for call in (
+                lambda: store.insert("t", 3, "x"), lambda: store.get("t", 1), lambda: store.insert_many("t", []),
+                store.transaction().__enter__, lambda: store.rows("t"), lambda: store.apply(b"", on_conflict=print),
+                lambda: store.session("t"), lambda: store.apply(b""),
+            ):
+                with self.assertRaisesRegex(RuntimeError, "another task has a transaction open"):
+                    call()
+            with self.assertRaises(asyncio.TimeoutError):
+                waiting = asyncio.get_running_loop().run_in_executor(None, store.insert, "t", 4, "thread")
+                await asyncio.wait_for(asyncio.shield(waiting), 0.2)
+            going.set()
+            await waiting
+            store.insert("t", 3, "task")
+
+        async def both(store):
+            events = asyncio.Event(), asyncio.Event()
+            await asyncio.gather(block(store, *events), other(store, *events))
+
+        async def within(store):
+            store.insert("t", 5, "loop")
+
+        with self.store() as store:
+            asyncio.run(both(store))
+            rows = [(1, "block"), (2, "block"), (3, "task"), (4, "thread")]
+            self.assertEqual(list(store.rows("t")), rows)
+            with store.transaction():
+                # A loop that runs in the block is a part of it.
+                asyncio.run(within(store))
+            self.assertEqual(store.get("t", 5), (5, "loop"))
 
 
 class Stacks(Folder):
@@ -742,9 +853,16 @@ class Conflicts(Folder):
                 store.transaction().__enter__, lambda: store.apply(file, conflict="replace"),
                 lambda: store.session("t"),
             ):
-                with self.assertRaisesRegex(RuntimeError, "only read rows"):
+                with self.assertRaisesRegex(RuntimeError, "can only read the store"):
                     store.apply(file, on_conflict=lambda conflict: call())
-            store.apply(file, on_conflict=lambda conflict: "omit" if store.get("t", 1) else "abort")
+
+            def read(conflict):
+                self.assertEqual((store.get("t", 1), list(store.rows("t"))), ((1, "x"), [(1, "x")]))
+                self.assertEqual((store.count("t"), store.tables()), (1, ["k", "t", "u"]))
+                self.assertEqual(store.schema("t"), SCHEMAS["t"])
+                return "omit"
+
+            store.apply(file, on_conflict=read)
             store.insert("t", 2, 3)
             self.assertEqual(set(store.rows("t")), {(1, "x"), (2, 3)})
 
@@ -768,7 +886,9 @@ class Conflicts(Folder):
         try:
             report = store.apply(file, on_conflict=decide, ignore_noop=ignore_noop)
         except StoreError as error:
-            return f"error {error.number} {error.name} {error.detail}".rstrip()
+            quoted = model.quoted((error.table or "").encode()).decode()
+            detail = f"{error.kind} {quoted}" if isinstance(error, ConflictError) else error.detail
+            return f"error {error.code:d} {error.name} {'' if detail is None else detail}".rstrip()
         lines = [b"warning 17 skipped " + model.quoted(name.encode()) for name in report.skipped]
         for conflict in report.conflicts:
             kind, choice, table = map(str.encode, conflict[:3])
@@ -824,9 +944,9 @@ class Conflicts(Folder):
         try:
             return [(it.kind, it.table, it.key) for it in call(*arguments, **given).conflicts], None
         except ConflictError as error:
-            return [(error.kind, error.table, error.key)], error.number
+            return [(error.kind, error.table, error.key)], error.code
         except StoreError as error:
-            return [], error.number
+            return [], error.code
 
     def test_what_is_asked(self):
         with self.store() as store:
@@ -892,57 +1012,43 @@ class Conflicts(Folder):
                 store.apply(file, conflict="replace")
                 self.assertEqual(len(list(vollikash.changes(session.changeset()))), 1)
 
-    def test_programs_that_are_run_anew(self):
-        """The changeset is sent again if another program has to carry it out."""
-        with self.store(self.folder / "store") as store:
-            store.insert("t", 1, "x")
-            expected = store._expected
-
-            def found_anew(*arguments):
-                found = expected(*arguments)
-                store._run_anew()
-                return found
-
-            with unittest.mock.patch.object(store, "_expected", found_anew):
-                report = store.apply(stores.header("t", 1, 0) + stores.insert(1, "y"), conflict="replace")
-            self.assertEqual(report, ([("conflict", "replace", "t", (1,))], [], 1, 0))
-            self.assertEqual(list(store.rows("t")), [(1, "y")])
-
-    def test_large_stores(self):
-        """No row is looked for where that takes long."""
-        with self.store(self.folder / "store") as store:
-            store.insert("t", 1, "x")
-            file = stores.header("t", 1, 0) + stores.insert(1, "y")
-            for largest, key in ((1 << 24, (1,)), (1, None)):
-                with unittest.mock.patch("vollikash._store.LARGEST_SEARCHED", largest):
-                    for call in (store.apply, lambda file: store.revert(vollikash.invert(file))):
-                        with self.assertRaises(ConflictError) as caught:
-                            call(file)
-                        self.assertEqual(caught.exception.key, key)
-                    report = store.apply(file, conflict="omit")
-                    self.assertEqual(report, ([("conflict", "omit", "t", key)], [], 0, 0))
-
-    def test_rows_that_are_not_found(self):
-        """What the rows do not show is not named, and the apply is done all the same."""
+    def test_a_block(self):
+        """An apply that ends at a conflict leaves the transaction of a block."""
         with self.store() as store:
-            store.insert("t", 1, "x")
-            del store._schemas["t"]
             file = stores.header("t", 1, 0) + stores.insert(1, "y")
-            with self.assertRaises(ConflictError) as caught:
-                store.apply(file)
-            self.assertEqual((caught.exception.key, caught.exception.detail), (None, "conflict 't'"))
-            report = store.apply(file, conflict="replace")
-            self.assertEqual(report, ([("conflict", "replace", "t", None)], [], 1, 0))
+            with store.transaction():
+                store.insert("t", 1, "x")
+                for given in ({}, {"on_conflict": lambda conflict: "abort"}, {"on_conflict": lambda conflict: 1 // 0}):
+                    with self.assertRaises((ConflictError, ZeroDivisionError)):
+                        store.apply(file, **given)
+                store.insert("t", 2, "z")
+            self.assertEqual(list(store.rows("t")), [(1, "x"), (2, "z")])
 
-    def test_tables_that_are_not_known(self):
-        """Nothing is carried out that was not asked for."""
-        with self.store() as store:
+    def test_second_conflicts(self):
+        """One is asked about only if the row of the first is to be replaced."""
+        for first, kinds in (("omit", ["data"]), ("replace", ["data", "constraint"])):
+            with self.subTest(first), self.store() as store:
+                store.insert("u", 1, 2, 3)
+                builder = vollikash.Builder()
+                builder.table("u", key=[True, False, True])
+                builder.update("u", old=(1, 4, 3), new=(UNDEFINED, None, UNDEFINED))
+                asked = []
+
+                def decide(conflict):
+                    asked.append(conflict.kind)
+                    return first if conflict.kind == "data" else "omit"
+
+                report = store.apply(builder.to_bytes(), on_conflict=decide)
+                self.assertEqual((asked, [conflict.kind for conflict in report.conflicts]), (kinds, kinds))
+                self.assertEqual((report.applied, list(store.rows("u"))), (0, [(1, 2, 3)]))
+
+    def test_without_the_library(self):
+        """Conflicts are decided without the C library."""
+        with self.store() as store, unittest.mock.patch("vollikash._files._library", side_effect=OSError):
             store.insert("t", 1, "x")
-            del store._schemas["t"]
             file = stores.header("t", 1, 0) + stores.insert(1, "y")
             report = store.apply(file, on_conflict=lambda conflict: "replace")
-            self.assertEqual(report, ([], ["t"], 0, 0))
-            self.assertEqual(list(store.rows("t")), [(1, "x")])
+            self.assertEqual((report.applied, store.get("t", 1)), (1, (1, "y")))
 
     def test_session(self):
         """What was decided is recorded."""
@@ -1011,6 +1117,9 @@ class Exchanges(Folder):
                 store.load_from(base, "nowhere")
             self.expect("NullInKey", store.load_from, base, "n")
             self.assertEqual(store.tables(), ["k", "t", "u"])
+            with store.transaction():
+                self.assertEqual(self.expect("NullInKey", store.load_from, base, "n").row, 1)
+                self.assertEqual(store.count("n"), 0)
 
     def test_open_transactions(self):
         """A transaction of the database stays open, with what was done before a refusal."""
@@ -1029,14 +1138,12 @@ class Exchanges(Folder):
 
     def test_many_rows(self):
         base = self.database("CREATE TABLE m(a INTEGER PRIMARY KEY, b NOT NULL)")
-        rows = [(key, f"row {key}") for key in range(100_000)]
+        rows = [(key, f"row {key}") for key in range(5000)]
         base.executemany("INSERT INTO m VALUES(?, ?)", rows)
         with self.store(self.folder / "store") as store:
-            started = time.perf_counter()
             store.load_from(base, "m")
             other = self.database()
             store.save_to(other, "m")
-            self.assertLess(time.perf_counter() - started, 60)
             self.assertEqual(other.execute("SELECT * FROM m ORDER BY a").fetchall(), rows)
 
 
@@ -1045,30 +1152,80 @@ class Sizes(Folder):
 
     def test_insert_many(self):
         with self.store(self.folder / "store") as store:
-            count = 100_000
-            started = time.perf_counter()
+            count = 5000
             store.insert_many("t", ((key, f"row\n{key}") for key in range(count)))
-            self.assertLess(time.perf_counter() - started, 60)
             self.assertEqual(sum(1 for _ in store.rows("t")), count)
-            self.expect("KeyTaken", store.insert_many, "t", [(count, 1), (0, 1)])
-            with self.assertRaisesRegex(StoreError, "33 KeyTaken in table 't', key \\(7,\\)$"):
+            with self.assertRaisesRegex(vollikash.KeyTaken, "^KeyTaken in row 2: .* the key \\(7,\\)$") as caught:
                 store.insert_many("t", [(count, 1), (7, 1), (8, 1)])
-            with self.assertRaisesRegex(StoreError, "35 RowWidth in row 2$"):
-                store.insert_many("t", [(count, 1), (count + 1,)])
+            self.assertEqual((caught.exception.row, caught.exception.key), (2, (7,)))
+            rows = [(key, 1) for key in range(count, 2 * count)]
+            with self.assertRaises(vollikash.KeyTaken) as caught:
+                store.insert_many("t", [*rows, rows[99]])
+            self.assertEqual((caught.exception.row, caught.exception.key), (count + 1, (count + 99,)))
+            self.assertEqual(self.expect("RowWidth", store.insert_many, "t", [(count, 1), (count + 1,)]).row, 2)
+            self.assertEqual(self.expect("NoTable", store.insert_many, "v", iter(rows)).row, 1)
+            self.assertEqual(self.expect("NotNull", store.insert_many, "u", [(1, None, 1)]).row, 1)
             with self.assertRaisesRegex(ValueError, "row 2: table 't', column 2: a float"):
                 store.insert_many("t", [(count, 1), (count + 1, 1.5)])
-            self.expect("KeyTaken", store.insert_many, "t", [(count, 1), (count, 1)])
-            self.expect("RowWidth", store.insert_many, "t", [(count, 1), (count + 1,)])
-            with self.assertRaises(ValueError):
-                store.insert_many("t", [(count, 1.5)])
-            for row in ({"a": 1, "b": 2}, "ab", b"ab"):
-                with self.assertRaisesRegex(ValueError, "row 1: a row has its values in order"):
+            with self.assertRaisesRegex(ValueError, "row 1: table 't', column 2: UNDEFINED"):
+                store.insert_many("t", [(count, UNDEFINED)])
+            for row in ({"a": 1, "b": 2}, "ab", b"ab", iter((1, 2))):
+                with self.assertRaisesRegex(ValueError, "row 1: .*a row has its values in order, and is no "):
                     store.insert_many("t", [row])
+            for given, error in (((1 // (count - key) for key in (0, count)), ZeroDivisionError), (7, TypeError)):
+                with self.assertRaises(error):
+                    store.insert_many("t", given if error is TypeError else ((count, it) for it in given))
             store.insert_many("t", [])
-            self.assertIsNone(store.get("t", count))
+            self.assertEqual(store.count("t"), count)
+
+    def test_insert_many_in_a_block(self):
+        """If a row is refused, none of them is inserted, and the transaction goes on."""
+        with self.store() as store:
+            store.insert_many("u", [(key, "x", b"\0") for key in range(10)])
+            rows = [(key, "y", b"\0") for key in range(10, 700)]
+            reused = ["", "", ""]
+
+            def each(*lists):
+                for row in itertools.chain(*lists):
+                    reused[:] = row
+                    yield reused
+
+            with store.transaction():
+                store.insert("u", 7000, "x", "")
+                for given, error in (
+                    ((rows, [(3, "z", b"\0")], rows), vollikash.KeyTaken), ((rows, rows[5:6]), vollikash.KeyTaken),
+                    ((rows, [(1, 1)]), vollikash.RowWidth), ((rows, [(1, 1, 1.5)]), ValueError),
+                    (([(7001, "", "")], [(1, "", None)], rows), vollikash.NullInKey), ((rows, [7]), TypeError),
+                ):
+                    with self.assertRaises(error):
+                        store.insert_many("u", each(*given))
+                    self.assertEqual(store.count("u"), 11)
+                store.insert_many("u", each(rows))
+            wanted = {(key, "x", b"\0") for key in range(10)} | {(7000, "x", "")} | set(rows)
+            self.assertEqual(set(store.rows("u")), wanted)
+
+    def test_rows_of_the_store(self):
+        """Rows can come from the store itself, and other calls be made in between."""
+        with self.store() as store:
+            store.insert_many("t", [(key, f"row {key}") for key in range(1200)])
+            store.create("c", ["a", "b"], key=["a"])
+            store.insert_many("c", store.rows("t"))
+            self.assertEqual(list(store.rows("c")), list(store.rows("t")))
+
+            def rows():
+                for key in range(2000, 2600):
+                    yield key, "outer"
+                    if key % 200 == 0:
+                        # Some rows are sent at a time.
+                        self.assertIn(store.count("c"), range(1200, key - 790))
+                        store.insert_many("c", [(key + 10_000, "inner")])
+                    if key == 2300:
+                        self.expect("KeyTaken", store.insert_many, "c", [(50_000, "x"), (7, "x"), (50_001, "x")])
+
+            store.insert_many("c", rows())
+            self.assertEqual((store.count("c"), store.get("c", 50_000)), (1803, None))
 
     def test_long_changesets(self):
-        """One that no program takes as a line is applied by a command, and reverted."""
         rows = [(key, os.urandom(1 << 20)) for key in range(20)]
         with self.store(self.folder / "store") as store:
             store.insert_many("t", rows)
@@ -1078,68 +1235,22 @@ class Sizes(Folder):
             for row in rows:
                 builder.delete("t", *row)
             deletes = builder.to_bytes()
-            self.assertEqual(store.apply(deletes).applied, 20)
+            with store.session("t") as session:
+                self.assertEqual(store.apply(deletes).applied, 20)
+                self.assertEqual(session.changeset(), deletes)
             with self.assertRaises(ConflictError) as caught:
                 store.apply(deletes)
-            self.assertEqual((caught.exception.kind, caught.exception.table), ("notfound", "t"))
-            self.assertIsNone(caught.exception.key)
-            report = store.apply(deletes, notfound="omit")
+            error = caught.exception
+            self.assertEqual((error.kind, error.table, error.key), ("notfound", "t", (0,)))
+            report = store.apply(deletes, on_conflict=lambda conflict: "omit")
             self.assertEqual((len(report.conflicts), report.applied), (20, 0))
-            self.assertIsNone(report.conflicts[0].key)
             self.assertEqual(store.apply(deletes, ignore_noop=True).ignored, 20)
             self.assertEqual(store.revert(deletes).applied, 20)
-            with self.assertRaises(ConflictError):
-                store.revert(deletes)
-            with self.assertRaises(ChangesetError):
-                store.apply(deletes[:-1])
             self.assertEqual(list(store.rows("t")), rows)
-            with store.session("t"):
-                self.expect_unsent(store, store.apply, deletes)
-                self.expect_unsent(store, store.revert, deletes)
-                self.expect_unsent(store, store.insert, "t", 20, b"x" * 9_000_000)
-            self.assertEqual(list(store.rows("t")), rows)
-            store.close()
-            with self.assertRaises(vollikash.ProgramError):
-                store.apply(deletes)
-        with self.store() as store:
-            for choices in ({}, {"notfound": "omit"}, {"on_conflict": lambda conflict: "omit"}):
-                self.expect_unsent(store, functools.partial(store.apply, **choices), deletes)
-            self.expect_unsent(store, store.revert, deletes)
-            self.expect_unsent(store, store.insert_many, "t", rows)
-            self.assertEqual(list(store.rows("t")), [])
-
-    def expect_unsent(self, store, call, *arguments):
-        """Expect that a call is refused before a line is sent, with the reason and the way out."""
-        left, why = store._process.left, "a changeset has at most [0-9]+ bytes: close the session, "
-        with self.assertRaisesRegex(StoreError, f"error 63 ScriptTooLong in memory .*{why}take a "):
-            call(*arguments)
-        self.assertEqual(store._process.left, left)
-
-    def test_long_values(self):
-        """A value that no line can hold is stored in a file, edited and deleted."""
-        long = b"\x07" * 9_000_000
-        with self.store(self.folder / "store") as store:
-            store.insert("t", 1, long)
-            store.update("t", {"b": long[1:]}, where={"a": 1})
-            store.insert("t", long, 2)
-            self.assertEqual(list(store.rows("t")), [(1, long[1:]), (long, 2)])
-            store.delete("t", where={"a": long})
-            self.assertEqual(store.get("t", 1), (1, long[1:]))
-
-    def test_conflicts_of_long_changesets(self):
-        """The changeset of a conflict is sent once, and a program in memory takes it."""
-        with self.store() as store:
-            store.insert_many("t", [(1, "x"), (2, "x")])
-            builder = vollikash.Builder()
-            builder.table("t", key=[True, False])
-            builder.insert("t", 2, b"\x07" * 6_000_000)
-            report = store.apply(builder.to_bytes(), conflict="replace")
-            self.assertEqual(report.conflicts, [("conflict", "replace", "t", (2,))])
-            self.assertEqual(store.get("t", 2), (2, b"\x07" * 6_000_000))
 
 
 if __name__ == "__main__":
     if sys.argv[1:2] and not sys.argv[1].startswith("-"):
         PROGRAM = pathlib.Path(sys.argv.pop(1)).resolve()
-    os.environ.setdefault("VOLLIKASH_PROGRAM", str(PROGRAM))
+    os.environ["VOLLIKASH_CALLS"] = str(PROGRAM)
     unittest.main()

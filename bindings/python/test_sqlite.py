@@ -203,7 +203,7 @@ class Changesets(unittest.TestCase):
             builder.delete("p", 1)
             with self.assertRaises(ConflictError) as caught:
                 base.apply(builder.to_bytes())
-            self.assertEqual((caught.exception.kind, caught.exception.table), ("foreign_key", ""))
+            self.assertEqual((caught.exception.kind, caught.exception.table), ("foreign_key", None))
             self.assertIsNone(caught.exception.key)
             self.assertEqual(base.execute("SELECT * FROM p"), [(1,)])
 

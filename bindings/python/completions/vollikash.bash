@@ -16,10 +16,11 @@ _vollikash() {
     html) options='--schema --output' ;;
     invert | concat | number-keys) options='--output' ;;
     select) options='--table --output' ;;
-    apply) options='--data --notfound --conflict --constraint --ignore-noop --interactive' ;;
+    apply) options='--data --notfound --conflict --constraint --create --ignore-noop --interactive' ;;
   esac
   case $previous in
-    --data | --notfound | --conflict | --constraint) options='omit replace abort' ;;
+    --data | --conflict) options='omit replace abort' ;;
+    --notfound | --constraint) options='omit abort' ;;
     *)
       # The name of a file is completed if there is nothing else.
       if [[ -n $command && $current != -* ]]; then

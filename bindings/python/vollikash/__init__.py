@@ -8,19 +8,21 @@ with sessions and undo.
 >>> vollikash.sql(builder.to_bytes())
 'INSERT INTO "t" VALUES(1, \\'x\\');\\n'
 
-The calls on files use libvollikash.so. `open` opens a store, by a `changeset` program that runs
-next to this one.
+The calls on files use libvollikash.so. `open` opens a store, by a `changeset-calls` program that
+runs next to this one.
 """
 from ._builder import Builder
 from ._changes import Change, changes
-from ._deciding import PendingConflict
+from ._conflicts import Choice, Conflict, PendingConflict, Report
 from ._errors import (
-    Cause, ChangesetError, Code, ConflictError, Error, JsonError, ProgramError, StoreError,
+    AlreadyAttached, BadSchema, Busy, Cause, ChangesetError, Code, ConflictError, ConflictsDiffer,
+    DamagedStore, Error, FrameTooLong, Interrupted, JsonError, KeyTaken, Kind, NoRow, NoSession,
+    NoTable, NoTransaction, NotNull, NullInKey, ProgramError, RowWidth, SessionOpen, StoreError,
+    StoreFault, TableExists, TransactionEnded, TransactionOpen, UnknownColumn, Wider, WrongStore,
 )
 from ._explain import explain
 from ._files import check, dump, invert, number_keys, sql
 from ._json import from_json, read_json, to_json, write_json
-from ._lines import Choice, Conflict, Kind, Report
 from ._merging import concat
 from ._schema import Schema
 from ._session import Session
@@ -30,10 +32,14 @@ from ._undo import Action, UndoStack
 from ._values import UNDEFINED, Field, Op, Undefined, Value
 
 __all__ = [
-    "Action", "Builder", "Cause", "Change", "ChangesetError", "Choice", "Code", "Conflict",
-    "ConflictError", "Counts", "Error", "Field", "JsonError", "Kind", "Op", "PendingConflict",
-    "ProgramError", "Report", "Schema", "Session", "Store", "StoreError", "UNDEFINED", "Undefined",
-    "UndoStack", "Value", "changes", "check", "concat", "dump", "explain", "from_json", "invert",
-    "number_keys", "open", "read_json", "select", "sql", "stat", "to_json", "write_json",
+    "Action", "AlreadyAttached", "BadSchema", "Builder", "Busy", "Cause", "Change",
+    "ChangesetError", "Choice", "Code", "Conflict", "ConflictError", "ConflictsDiffer", "Counts",
+    "DamagedStore", "Error", "Field", "FrameTooLong", "Interrupted", "JsonError", "KeyTaken",
+    "Kind", "NoRow", "NoSession", "NoTable", "NoTransaction", "NotNull", "NullInKey", "Op",
+    "PendingConflict", "ProgramError", "Report", "RowWidth", "Schema", "Session", "SessionOpen",
+    "Store", "StoreError", "StoreFault", "TableExists", "TransactionEnded", "TransactionOpen",
+    "UNDEFINED", "Undefined", "UndoStack", "UnknownColumn", "Value", "Wider", "WrongStore",
+    "changes", "check", "concat", "dump", "explain", "from_json", "invert", "number_keys", "open",
+    "read_json", "select", "sql", "stat", "to_json", "write_json",
 ]
 __version__ = "1.0.0"

@@ -1,11 +1,11 @@
-"""Reading the bytes of a changeset that the library has accepted.
+"""Reading the bytes of a changeset that the library has accepted, and rows of an answer.
 
 docs/FORMAT.md has the format. `entries` is the only reader of accepted files.
 """
 import struct
 from typing import Iterator, List, NamedTuple, Optional, Tuple
 
-from ._values import UNDEFINED, Field, Op, Record
+from ._values import UNDEFINED, Field, Op, Record, Row, Value
 
 _TABLE = 0x54
 _DELETE, _INSERT = 0x09, 0x12
@@ -26,7 +26,7 @@ class Table(NamedTuple):
 Entry = Tuple[Table, Op, bool, Optional[Record], Optional[Record]]
 
 
-def _varint(data: bytes, at: int) -> Tuple[int, int]:
+def varint_at(data: bytes, at: int) -> Tuple[int, int]:
     """Return the number at an offset, and the offset after it."""
     number = 0
     while data[at] > 0x7F:
@@ -37,7 +37,7 @@ def _varint(data: bytes, at: int) -> Tuple[int, int]:
 
 def _header(data: bytes, start: int) -> Tuple[Table, int]:
     """Return the table whose header is at an offset, and the offset after the header."""
-    count, at = _varint(data, start + 1)
+    count, at = varint_at(data, start + 1)
     end = data.index(0, at + count)
     return Table(data[at + count:end].decode(), data[at:at + count], start), end + 1
 
@@ -56,13 +56,50 @@ def record_at(data: bytes, at: int, count: int) -> Tuple[Record, int]:
             size = data[at]
             at += 1
             if size > 0x7F:
-                size, at = _varint(data, at - 1)
+                size, at = varint_at(data, at - 1)
             content = data[at:at + size]
             add(content.decode() if kind == _TEXT else content)
             at += size
         else:
             add(None if kind == _NULL else UNDEFINED)
     return tuple(fields), at
+
+
+def rows_at(data: bytes, at: int, count: int) -> Tuple[List[Row], int]:
+    """Return this many rows at an offset, each with its width before it, and the offset after them.
+
+    Bytes that are no rows of one width raise ValueError or IndexError, or the offset is not in the
+    bytes.
+    """
+    if count == 0:
+        return [], at
+    width, end = varint_at(data, at)
+    first, head, columns = data[at], data[at:end], range(width)
+    skipped = len(head)
+    values: List[Value] = []
+    add = values.append
+    for _ in range(count):
+        if data[at] != first or skipped > 1 and not data.startswith(head, at):
+            raise ValueError("rows have different widths")
+        at += skipped
+        for _ in columns:
+            kind = data[at]
+            if kind == _INTEGER:
+                add(_integer_at(data, at + 1)[0])
+                at += 9
+            elif kind == _TEXT or kind == _BLOB:
+                size = data[at + 1]
+                start = at + 2
+                if size > 0x7F:
+                    size, start = varint_at(data, at + 1)
+                at = start + size
+                add(data[start:at].decode() if kind == _TEXT else data[start:at])
+            elif kind == _NULL:
+                add(None)
+                at += 1
+            else:
+                raise ValueError(f"no value of a row has the type {kind}")
+    return list(zip(*[iter(values)] * width)), at
 
 
 def entries(data: bytes) -> Iterator[Entry]:

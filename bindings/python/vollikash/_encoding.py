@@ -1,4 +1,4 @@
-"""Spelling tables and changes as the bytes of a changeset, docs/FORMAT.md."""
+"""Spelling tables, changes and values as the bytes of a changeset, docs/FORMAT.md."""
 import struct
 from typing import Iterable, List, NoReturn, Optional, Sequence, Tuple
 
@@ -13,7 +13,7 @@ INSERT, DELETE, UPDATE = b"\x12", b"\x09", b"\x17"
 
 _OPERATIONS = {"insert": INSERT, "delete": DELETE, "update": UPDATE}
 
-_integer = struct.Struct(">Bq").pack
+integer = struct.Struct(">Bq").pack
 
 
 class Unfit(ValueError):
@@ -23,7 +23,7 @@ class Unfit(ValueError):
         super().__init__(why if column is None else f"column {column}: {why}")
 
 
-def _varint(number: int) -> bytes:
+def varint(number: int) -> bytes:
     """Return the bytes of a count."""
     spelled = [number & 0x7F]
     while number > 0x7F:
@@ -32,12 +32,12 @@ def _varint(number: int) -> bytes:
     return bytes(reversed(spelled))
 
 
-# What begins a short text and a short blob.
-_TEXTS = [b"\x03" + _varint(size) for size in range(256)]
-_BLOBS = [b"\x04" + _varint(size) for size in range(256)]
+# What begins a short text and a short blob, by its length in bytes.
+TEXTS = [b"\x03" + varint(size) for size in range(256)]
+BLOBS = [b"\x04" + varint(size) for size in range(256)]
 
 
-def _utf8(text: str) -> bytes:
+def utf8(text: str) -> bytes:
     """Return the bytes of a text."""
     try:
         return text.encode()
@@ -45,23 +45,23 @@ def _utf8(text: str) -> bytes:
         raise Unfit(f"a text that is not Unicode: {error.reason}") from None
 
 
-def _sized(starts: Sequence[bytes], content: bytes) -> bytes:
+def sized(starts: Sequence[bytes], content: bytes) -> bytes:
     """Return the bytes of a text or a blob."""
     size = len(content)
     if size < len(starts):
         return starts[size] + content
     if size > _LONGEST:
         raise Unfit(f"{size} bytes. A text or a blob has at most {_LONGEST}")
-    return starts[0][:1] + _varint(size) + content
+    return starts[0][:1] + varint(size) + content
 
 
 def spelled(value: object) -> bytes:
     """Return the bytes of a field. Raise `Unfit` for what cannot be one."""
     if isinstance(value, str):
-        return _sized(_TEXTS, _utf8(value))
+        return sized(TEXTS, utf8(value))
     if isinstance(value, int) and value is not True and value is not False:
         try:
-            return _integer(1, value)
+            return integer(1, value)
         except struct.error:
             raise Unfit("an int of more than 64 bits") from None
     if value is None:
@@ -69,7 +69,7 @@ def spelled(value: object) -> bytes:
     if value is LEFT_OUT:
         return UNDEFINED
     if isinstance(value, (bytes, bytearray, memoryview)):
-        return _sized(_BLOBS, bytes(value))
+        return sized(BLOBS, bytes(value))
     kind = type(value).__name__
     raise Unfit(f"a {kind}, and not an int of 64 bits, str, bytes or None")
 
@@ -93,7 +93,7 @@ def header(name: str, flags: bytes) -> bytes:
         raise Unfit(f"a name is a str, and not a {type(name).__name__}")
     if not name or "\0" in name:
         raise Unfit(f"the name {shown(name)} is empty or has a zero character")
-    return b"".join((b"T", _varint(len(flags)), flags, _utf8(name), b"\0"))
+    return b"".join((b"T", varint(len(flags)), flags, utf8(name), b"\0"))
 
 
 class Encoder:

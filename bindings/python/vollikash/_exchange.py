@@ -2,9 +2,8 @@
 import contextlib
 from typing import TYPE_CHECKING, Iterable, Iterator, List, Tuple
 
-from ._edits import Row
 from ._schema import Schema
-from ._values import shown
+from ._values import Row, shown
 
 if TYPE_CHECKING:
     import sqlite3

@@ -1,230 +1,465 @@
-"""A `changeset` program that runs next to this one, and is asked line by line."""
+"""A program that runs next to this one, and answers calls in frames.
+
+An exception of a signal, such as KeyboardInterrupt, is raised between two instructions of Python.
+So what was written and read is noted in lists by one instruction each, and a call goes on from
+there to its answer.
+"""
+import contextlib
+import math
 import os
 import pathlib
-import selectors
+import select
 import shutil
+import struct
 import subprocess
 import threading
-import time
 import weakref
-from typing import Optional, Sequence
+from types import TracebackType
+from typing import Iterator, List, Optional, Sequence, Tuple, Type, Union
 
-from ._errors import ProgramError
+from ._calls import DONE, HEADER, is_refused
+from ._errors import Interrupted, ProgramError
 
-# What is printed after each answer: a slot with bytes that nobody guesses.
-_MARK_BYTES = 16
+# How many bytes are read at once, and how many of what a program says are kept.
+_MOST, _SAID = 1 << 16, 1 << 13
 
-# The slot that has the mark, if the caller names no other one.
-MARK_SLOT = "m"
+# How many seconds a program may take to end by itself if nobody waits for that.
+_PATIENCE = 1.0
 
-# How many bytes of lines a program takes, and how many one line has at most. The rest is for other
-# lines.
-LONGEST = 16777216
-LONGEST_LINE = LONGEST - 16384
+# The most milliseconds that `poll` waits.
+_LONGEST = 0x7FFFFFFF
 
-# How many bytes a file may have that is loaded by a line.
-LONGEST_FILE = LONGEST_LINE // 2
+# How many milliseconds calls wait to be written before answers are read.
+_MOMENT = 5
+
+_size_at = struct.Struct(">I").unpack_from
+_read, _write = os.read, os.write
 
 
-def find_program() -> str:
-    """Return the program: VOLLIKASH_PROGRAM, the file `changeset` in this folder, the one that the
+def find_program(name: str = "changeset-calls", variable: str = "VOLLIKASH_CALLS") -> str:
+    """Return a program: the one that a variable names, the file in this folder, the one that the
     repository builds, or the one on PATH.
     """
-    named = os.environ.get("VOLLIKASH_PROGRAM")
+    named = os.environ.get(variable)
     if named:
         return named
     here = pathlib.Path(__file__).resolve().parent
-    beside = here / "changeset"
-    built = here.parents[2] / "crates/changeset/out/changeset"
+    crate = name.replace("-", "_")
+    built = here.parents[2] / "crates" / crate / "out" / crate
     # Only in the repository: if this file is copied elsewhere, anybody may be able to write to that
     # path.
-    for program in (beside, *([built] if here.match("bindings/python/vollikash") else [])):
+    for program in (here / name, *([built] if here.match("bindings/python/vollikash") else [])):
         if program.exists():
             return str(program)
-    found = shutil.which("changeset")
+    found = shutil.which(name)
     if found is None:
-        raise ProgramError("there is no changeset program: VOLLIKASH_PROGRAM can name one")
+        raise ProgramError(f"there is no {name} program: {variable} can name one")
     return found
 
 
-def _end(process: "subprocess.Popen[bytes]") -> None:
-    """End a program, whatever it does."""
+def start(words: Sequence[Union[str, bytes]]) -> "subprocess.Popen[bytes]":
+    """Start a program, which reads and writes pipes, and gets no Ctrl-C of a terminal."""
+    try:
+        return subprocess.Popen(
+            words, stdin=subprocess.PIPE, stdout=subprocess.PIPE, stderr=subprocess.PIPE, bufsize=0,
+            start_new_session=True,
+        )
+    except OSError as error:
+        raise ProgramError(f"{os.fsdecode(words[0])} does not run: {error.strerror}") from error
+
+
+def _close_pipes(process: "subprocess.Popen[bytes]") -> None:
+    """Close the ends of a program's pipes that this process has."""
     for stream in (process.stdin, process.stdout, process.stderr):
         if stream is not None:
             stream.close()
-    if process.poll() is None:
-        process.kill()
-    process.wait()
 
 
-def run_command(words: Sequence[str], timeout: float) -> "subprocess.CompletedProcess[str]":
-    """Run a command of the program, and return how it has ended."""
-    command = [find_program(), *words]
+def end(process: "subprocess.Popen[bytes]") -> None:
+    """End a program, whatever it does."""
+    _close_pipes(process)
     try:
-        return subprocess.run(
-            command, stdin=subprocess.DEVNULL, capture_output=True, encoding="utf-8",
-            timeout=timeout, start_new_session=True, check=False,
-        )
+        process.wait(_PATIENCE)
     except subprocess.TimeoutExpired:
-        raise ProgramError(f"the program has not ended in {timeout} seconds") from None
-    except UnicodeDecodeError as error:
-        raise ProgramError(f"the program answered no UTF-8: {error.reason}") from None
-    except OSError as error:
-        raise ProgramError(f"{command[0]} does not run: {error.strerror}") from error
+        pass
+    finally:
+        if process.returncode is None:
+            process.kill()
+            process.wait()
 
 
-def path_word(path: str) -> str:
-    """Return a path as a word of a command, which is no option."""
-    return f"./{path}" if path.startswith("-") else path
+def _interruption(error: BaseException, is_done: Optional[bool]) -> BaseException:
+    """Return what is raised for an exception of a signal that has come within a call."""
+    if not isinstance(error, KeyboardInterrupt):
+        return error
+    interrupted = Interrupted(is_done)
+    interrupted.__cause__ = error
+    return interrupted
 
 
-# The programs that were started and have answered. The lock is for reading and writing them.
-_STARTED: "weakref.WeakSet[Process]" = weakref.WeakSet()
-_STARTING = threading.Lock()
-
-
-def is_open_here(path: str) -> bool:
-    """Return whether a program of this process runs on the file at a path."""
-    with _STARTING:
-        started = list(_STARTED)
-    return any(process.has_file(path) for process in started)
-
-
-def fits_program(line: str) -> bool:
-    """Return whether a program that has taken no other line takes this one."""
-    # No character takes more than four bytes.
-    return 4 * len(line) <= LONGEST_LINE or len(line.encode()) <= LONGEST_LINE
+# The programs that are open. A forked child has copies of their pipes.
+_OPEN: "weakref.WeakSet[Process]" = weakref.WeakSet()
 
 
 class Process:
-    """A program that runs a shell on a file."""
+    """A program that has a store open, and answers one call after the other.
 
-    def __init__(self, path: str, timeout: float, slot: str = MARK_SLOT) -> None:
-        self.timeout = timeout
-        # What is sent after each line: the slot with the mark is printed.
-        self._ending = f"\n.hex {slot}\n"
-        program = find_program()
-        try:
-            self._process = subprocess.Popen(
-                [program, path_word(path), "shell"],
-                stdin=subprocess.PIPE,
-                stdout=subprocess.PIPE,
-                stderr=subprocess.PIPE,
-                bufsize=0,
-                start_new_session=True,
-            )
-        except OSError as error:
-            raise ProgramError(f"{program} does not run: {error.strerror}") from error
-        self._ends = weakref.finalize(self, _end, self._process)
-        for stream in (self._process.stdin, self._process.stdout):
-            assert stream is not None
-            os.set_blocking(stream.fileno(), False)
-        self.left = LONGEST
-        self._mark = os.urandom(_MARK_BYTES).hex()
-        self.ask(f".load {slot} {self._mark}")
-        self._path = path
-        with _STARTING:
-            _STARTED.add(self)
+    `lock` is held by who makes calls.
+    """
 
-    def has_file(self, path: str) -> bool:
-        """Return whether the program runs on the file at a path."""
-        is_file = self._ends.alive and self._path != ":memory:"
-        return is_file and os.path.samefile(self._path, path)
+    def __init__(self, path: bytes, timeout: Optional[float]) -> None:
+        self.lock = threading.RLock()
+        self._timeout = timeout
+        self._wait = None if timeout is None else math.ceil(min(timeout * 1000, _LONGEST))
+        self._process = start([find_program(), path])
+        self._ends = weakref.finalize(self, end, self._process)
+        _OPEN.add(self)
+        streams = self._process.stdin, self._process.stdout, self._process.stderr
+        self._stdin, self._stdout, self._stderr = (it.fileno() for it in streams if it is not None)
+        for number in (self._stdin, self._stdout, self._stderr):
+            os.set_blocking(number, False)
+        poll = select.poll()
+        poll.register(self._stdout, select.POLLIN)
+        poll.register(self._stderr, select.POLLIN)
+        self._heard, self._poll, self._readable = poll, poll.poll, [(self._stdout, select.POLLIN)]
+        self._room = select.poll()
+        self._room.register(self._stdin, select.POLLOUT)
+        # The arguments of calls that write and read.
+        self._to, self._from, self._most = (self._stdin,), (self._stdout,), (_MOST,)
+        self._said = b""
+        self._is_heard = self._is_open = self._is_free = True
+        self._closed = "the store is closed"
+        self._ahead: Optional[Ahead] = None
 
-    def fits(self, lines: Sequence[str], kept: int) -> bool:
-        """Return whether the program accepts these lines and `kept` more bytes. It accepts
-        16777216 bytes in all.
-        """
-        return sum(len((line + self._ending).encode()) for line in lines) + kept <= self.left
-
-    def has_half(self) -> bool:
-        """Return whether the program accepts half of its lines still, so that a session may begin.
-        """
-        return self.left >= LONGEST // 2
-
-    def ask(self, line: str) -> str:
-        """Return the answer to a line, which fits."""
-        return self._send_and_wait((line + self._ending).encode())
+    @property
+    def is_open(self) -> bool:
+        """Whether the program was not ended."""
+        return self._is_open
 
     def expect_open(self) -> None:
         """Raise `ProgramError` if the program was ended."""
-        if not self._ends.alive:
-            raise ProgramError("the store is closed")
+        if not self._is_open:
+            raise ProgramError(self._closed)
 
-    def end(self) -> None:
-        """End the program, whatever it does."""
-        self._ends()
-
-    def close(self) -> None:
-        """End the program, which has answered each line."""
-        process = self._process
-        if self._ends.alive and process.stdin is not None:
-            process.stdin.close()
-            try:
-                process.wait(self.timeout)
-            except subprocess.TimeoutExpired:
-                pass
-        self._ends()
-
-    def _send_and_wait(self, sent: bytes) -> str:
-        """Send a line, and the one that prints the mark. Return what is printed before that."""
-        self.left -= len(sent)
-        wanted = (self._mark + "\n").encode()
-        try:
-            return self._exchange(sent, wanted)[: -len(wanted)].decode()
-        except UnicodeDecodeError as error:
-            self._ends()
-            raise ProgramError(f"the program answered no UTF-8: {error.reason}") from None
-        except BaseException:
-            self._ends()
-            raise
-
-    def _exchange(self, sent: bytes, wanted: bytes) -> bytearray:
-        """Write and read until the bytes that are wanted were read last."""
-        stdin, stdout = self._process.stdin, self._process.stdout
+    def _expect_free(self) -> None:
+        """Raise an error if the program cannot be asked."""
         self.expect_open()
-        assert stdin is not None and stdout is not None
-        deadline, printed, unsent = time.monotonic() + self.timeout, bytearray(), memoryview(sent)
-        with selectors.DefaultSelector() as selector:
-            selector.register(stdout, selectors.EVENT_READ)
-            selector.register(stdin, selectors.EVENT_WRITE)
-            while unsent or not printed.endswith(wanted):
-                ready = selector.select(max(0.0, deadline - time.monotonic()))
-                if not ready:
-                    raise ProgramError(f"the program has not answered in {self.timeout} seconds")
-                for key, _ in ready:
-                    if key.fileobj is stdout:
-                        self._read(printed)
-                    else:
-                        unsent = unsent[self._write(unsent):]
-                        if not unsent:
-                            selector.unregister(stdin)
-        return printed
+        if not self._is_free:
+            raise RuntimeError("another call of the store waits for its answer")
 
-    def _read(self, printed: bytearray) -> None:
-        """Read what there is."""
-        assert self._process.stdout is not None
-        got: Optional[bytes] = self._process.stdout.read(1 << 16)
-        if got == b"":
-            raise self._ended()
-        printed += got or b""
+    def ask(self, frame: bytes) -> bytes:
+        """Return the answer to a call, both with their frames.
 
-    def _write(self, unsent: memoryview) -> int:
-        """Write what fits. Return how much that is."""
-        assert self._process.stdin is not None
+        An exception of a signal is raised after the answer, and a KeyboardInterrupt as
+        `Interrupted`. A second one ends the program.
+        """
+        if not self._is_free:
+            self._expect_free()
+        sent: List[int] = []
+        got: List[bytes] = []
+        error: Optional[BaseException] = None
         try:
-            return self._process.stdin.write(unsent[: 1 << 16]) or 0
-        except BrokenPipeError:
-            raise self._ended() from None
+            try:
+                self._is_free = False
+                if self._ahead is not None:
+                    self._ahead.settle()
+                sent.extend(map(_write, self._to, (frame,)))
+                # A short answer is written at once.
+                if sent[0] == len(frame) and self._poll(self._wait) == self._readable:
+                    got.extend(map(_read, self._from, self._most))
+                    answer = got[0]
+                    size = len(answer) - HEADER
+                    if size >= 0 and size == _size_at(answer)[0]:
+                        return answer
+            except (BlockingIOError, BrokenPipeError):
+                pass
+            except BaseException as caught:
+                error = caught
+            return self._finish(frame, sent, got, error)
+        finally:
+            self._is_free = self._is_open
+
+    def _finish(
+        self, frame: bytes, sent: List[int], got: List[bytes], error: Optional[BaseException]
+    ) -> bytes:
+        """Return the answer to a call of which this was written and read. Raise the exception of a
+        signal, if one has come, after it.
+        """
+        while True:
+            if error is not None and not sent:
+                raise _interruption(error, False)
+            try:
+                answer = self._rest(frame, sent, got)
+                break
+            except BaseException as again:
+                first, error = error, again
+                if first is None and not isinstance(again, ProgramError):
+                    continue
+                self.end()
+                raise again if first is None else _interruption(first, None)
+        if error is not None:
+            raise _interruption(error, not is_refused(answer))
+        return answer
+
+    def _rest(self, frame: bytes, sent: List[int], got: List[bytes]) -> bytes:
+        """Write and read the rest of a call, and return the answer."""
+        unsent, held, whole = memoryview(frame)[sum(sent):], sum(map(len, got)), 0
+        while True:
+            if held >= HEADER and not whole:
+                whole = HEADER + int(_size_at(b"".join(got[:HEADER]))[0])
+            if whole and held >= whole and not unsent:
+                break
+            writes, reads = len(sent), len(got)
+            self.turn(unsent, sent, got)
+            unsent = unsent[sum(sent[writes:]):]
+            held += sum(map(len, got[reads:]))
+        if held > whole:
+            raise ProgramError("the program answered more than one call")
+        return b"".join(got)
+
+    def turn(
+        self, unsent: Union[bytes, memoryview], sent: List[int], got: List[bytes]
+    ) -> None:
+        """Write and read what can be written and read at once, and wait until that is something.
+
+        Raise `ProgramError` if the program does nothing for the time that an answer may take, or
+        has ended.
+        """
+        if not self._ends.alive:
+            raise ProgramError(self._closed)
+        poll = select.poll()
+        poll.register(self._stdout, select.POLLIN)
+        if self._is_heard:
+            poll.register(self._stderr, select.POLLIN)
+        if unsent:
+            poll.register(self._stdin, select.POLLOUT)
+        ready = [number for number, _ in poll.poll(self._wait)]
+        if not ready:
+            why = f"the program has not answered in {self._timeout} seconds"
+            raise ProgramError(why, self._text())
+        if self._stderr in ready:
+            self._hear()
+        if self._stdout in ready:
+            got.extend(map(_read, self._from, self._most))
+            if not got[-1]:
+                raise self._ended()
+        if self._stdin in ready:
+            try:
+                sent.extend(map(_write, self._to, (unsent,)))
+            except BlockingIOError:
+                pass
+            except BrokenPipeError:
+                raise self._ended() from None
+
+    def push(self, unsent: memoryview, sent: List[int]) -> bool:
+        """Write what can be written within a moment, and return whether that is something.
+
+        Each answer ends a wait of `turn`, but not this one.
+        """
+        for wait in (_MOMENT, 0):
+            try:
+                sent.extend(map(_write, self._to, (unsent,)))
+                return True
+            except BlockingIOError:
+                self._room.poll(wait)
+            except BrokenPipeError:
+                raise self._ended() from None
+        return False
+
+    def pull(self, got: List[bytes]) -> None:
+        """Read what can be read at once."""
+        try:
+            got.extend(map(_read, self._from, self._most))
+        except BlockingIOError:
+            return
+        if not got[-1]:
+            raise self._ended()
+
+    def _hear(self) -> None:
+        """Read what the program says on standard error, and keep the end of it."""
+        try:
+            said = _read(self._stderr, _MOST)
+        except BlockingIOError:
+            return
+        self._said = (self._said + said)[-_SAID:]
+        if not said:
+            self._is_heard = False
+            self._heard.unregister(self._stderr)
+
+    def _text(self) -> str:
+        """Return what the program has said last."""
+        return self._said.decode(errors="replace")
 
     def _ended(self) -> ProgramError:
         """Return the error that the program has ended, with what it said."""
-        assert self._process.stderr is not None
         try:
-            self._process.wait(self.timeout)
+            status = self._process.wait(self._timeout)
         except subprocess.TimeoutExpired:
-            return ProgramError("the program reads and writes no more")
-        said = self._process.stderr.read() or b""
-        text = said.decode(errors="replace")
-        why = text.strip() or f"exit status {self._process.returncode}"
-        return ProgramError(f"the program has ended: {why}", text)
+            return ProgramError("the program reads and writes no more", self._text())
+        if self._is_heard:
+            self._hear()
+        why = self._text().strip() or f"exit status {status}"
+        return ProgramError(f"the program has ended: {why}", self._text())
+
+    @contextlib.contextmanager
+    def occupied(self) -> Iterator[None]:
+        """In the block, a handler of a signal cannot make a call."""
+        before, self._is_free = self._is_free, False
+        try:
+            yield
+        finally:
+            self._is_free = before and self._is_open
+
+    def ahead(self) -> "Ahead":
+        """Return what sends calls before the answers to others are read, in a `with` block. After
+        it each call is answered.
+        """
+        return Ahead(self)
+
+    def begin_ahead(self, ahead: "Ahead") -> Optional["Ahead"]:
+        """Let calls be sent by something else, and return what has sent them before."""
+        self._expect_free()
+        before = self._ahead
+        if before is not None:
+            before.settle()
+        self._ahead = ahead
+        return before
+
+    def end_ahead(self, before: Optional["Ahead"]) -> None:
+        """Let calls be sent again as before."""
+        self._ahead = before
+
+    def end(self) -> None:
+        """End the program, whatever it does."""
+        self._is_open = self._is_free = False
+        if self._ends.alive:
+            self._process.kill()
+        self._ends()
+
+    def close(self) -> None:
+        """End the program, and wait for that. If a call waits for its answer, end it at once."""
+        if not self._is_free:
+            self.end()
+        is_open, self._is_open, self._is_free = self._is_open, False, False
+        got: List[bytes] = []
+        try:
+            if is_open and self._process.stdin is not None:
+                self._process.stdin.close()
+                with contextlib.suppress(ProgramError):
+                    while not got:
+                        self.turn(b"", [], got)
+        finally:
+            self._ends()
+
+    def leave(self) -> None:
+        """Leave the program to the process that has forked this one."""
+        self.lock = threading.RLock()
+        if self._ends.detach() is not None:
+            _close_pipes(self._process)
+            # So that nobody waits for the end of what is no child of this process.
+            self._process.returncode = 0
+        self._is_open = self._is_free = False
+        self._closed = "the store belongs to the process that has forked this one"
+
+
+class Ahead:
+    """Calls that are sent before the answers to others are read. Most are answered DONE.
+
+    Each attribute is replaced at once, so that an exception of a signal leaves it whole.
+    """
+
+    def __init__(self, process: Process) -> None:
+        self._process = process
+        self._before: Optional[Ahead] = None
+        # What was sent last, how many bytes of it are written, and the number of calls.
+        self._sent: Tuple[bytes, List[int], int] = (b"", [], 0)
+        # What was read, the number of answers before that, and the answers other than DONE, each
+        # with the number of its call from 0.
+        self._got: Tuple[List[bytes], int, List[Tuple[int, bytes]]] = ([], 0, [])
+
+    def __enter__(self) -> "Ahead":
+        self._before = self._process.begin_ahead(self)
+        return self
+
+    def __exit__(
+        self,
+        kind: Optional[Type[BaseException]],
+        error: Optional[BaseException],
+        trace: Optional[TracebackType],
+    ) -> None:
+        self._process.end_ahead(self._before)
+        if isinstance(error, ProgramError):
+            self._process.end()
+            return
+        try:
+            self.settle()
+        except BaseException:
+            self._process.end()
+            raise
+
+    def send(self, frames: bytes, count: int) -> None:
+        """Send some calls."""
+        self._process.expect_open()
+        with self._process.occupied():
+            self._sent = frames, [], self._sent[2] + count
+            self._write()
+            self._process.pull(self._got[0])
+            self._note()
+
+    def others(self) -> List[Tuple[int, bytes]]:
+        """Return the answers that are not DONE, as far as they are read, each with the number of
+        its call from 0.
+        """
+        return self._got[2]
+
+    def done(self, calls: Sequence[bytes]) -> List[bytes]:
+        """Return those of all calls that are answered DONE."""
+        others = {number for number, _ in self._got[2]}
+        return [it for number, it in enumerate(calls[:self._got[1]]) if number not in others]
+
+    def settle(self) -> None:
+        """Wait for the answer to each call."""
+        if self._process.is_open:
+            with self._process.occupied():
+                self._write()
+                while self._note() < self._sent[2]:
+                    self._process.turn(b"", [], self._got[0])
+
+    def _write(self) -> None:
+        """Write what is sent, and read answers meanwhile."""
+        frames, written, _ = self._sent
+        while True:
+            unsent = memoryview(frames)[sum(written):]
+            if not unsent:
+                break
+            if not self._process.push(unsent, written):
+                self._process.turn(unsent, written, self._got[0])
+
+    def _note(self) -> int:
+        """Note the answers that are read whole, and return the number of answers."""
+        chunks, number, others = self._got
+        data = b"".join(chunks)
+        at = len(data) // len(DONE) * len(DONE)
+        last = number + at // len(DONE)
+        if data[:at] != DONE * (last - number):
+            at, last, others = 0, number, others[:]
+            while len(data) >= at + HEADER:
+                end_at = at + HEADER + int(_size_at(data, at)[0])
+                if end_at > len(data):
+                    break
+                if data[at:end_at] != DONE:
+                    others.append((last, data[at:end_at]))
+                at, last = end_at, last + 1
+        if last > self._sent[2]:
+            raise ProgramError("the program answered more than was asked")
+        self._got = [data[at:]], last, others
+        return last
+
+
+def _leave_all() -> None:
+    """Leave the programs that are open to the process that has forked this one."""
+    for process in list(_OPEN):
+        process.leave()
+
+
+os.register_at_fork(after_in_child=_leave_all)

@@ -1,11 +1,13 @@
 """Sessions, which record the changes of a store."""
+import contextlib
+import threading
 from types import TracebackType
-from typing import TYPE_CHECKING, Callable, Optional, Sequence, Type, TypeVar
+from typing import TYPE_CHECKING, Callable, NoReturn, Optional, Sequence, Type, TypeVar
 
-from ._edits import refusal
-from ._errors import Code, ProgramError, StoreError
+from . import _calls
+from ._conflicts import Report
+from ._errors import Code, Interrupted, NoSession, ProgramError, StoreError
 from ._files import number_keys
-from ._lines import Report, read_bytes, read_nothing, read_report, read_truth, spelled_name
 
 if TYPE_CHECKING:
     from ._store import Store
@@ -17,22 +19,25 @@ class Session:
     """The changes of the attached tables of a store since they were attached. Made by
     `Store.session`.
 
-    While a session is open, it records each call of the store. The calls of a closed one raise
-    `StoreError` with NoSession, but for `close`.
+    While a session is open, it records each call of the store, from any thread. Its own calls are
+    of the thread that has opened it: another one gets RuntimeError. In a transaction they raise
+    `TransactionOpen`. The calls of a closed session raise `NoSession`, but for `close`.
     """
 
     def __init__(self, store: "Store", tables: Sequence[str]) -> None:
         self._store = store
-        self._is_open = False
-        names = [spelled_name(table) for table in tables]
-        with store._lock:
-            if not store._process.has_half():
-                store._run_anew()
-            store._ask(read_nothing, ".session open")
-            store._has_session = self._is_open = True
+        self._thread = threading.get_ident()
+        self._is_open = True
+        attached = [_calls.attach(table) for table in tables]
         try:
-            for name in names:
-                store._ask(read_nothing, f".session attach {name}")
+            store._tell(_calls.OPEN_SESSION)
+        except Interrupted as error:
+            if error.is_done:
+                self._forget()
+            raise
+        try:
+            for frame in attached:
+                store._tell(frame)
         except BaseException:
             self._forget()
             raise
@@ -48,23 +53,32 @@ class Session:
     ) -> None:
         self._forget()
 
+    def __repr__(self) -> str:
+        return f"<vollikash.Session of {self._store!r}, {'open' if self._is_open else 'closed'}>"
+
+    def __reduce__(self) -> NoReturn:
+        raise TypeError("a session cannot be copied or pickled")
+
     def _forget(self) -> None:
         """Close the session, if the store still has it."""
-        try:
+        with contextlib.suppress(ProgramError, StoreError):
             self.close()
-        except (ProgramError, StoreError):
-            pass
 
-    def _ask(self, read: Callable[[str], _Answer], *lines: str) -> _Answer:
-        """Return the reply to the last of some lines of the open session."""
-        with self._store._lock:
-            if not self._is_open:
-                raise refusal(Code.NO_SESSION)
-            return self._store._ask(read, *lines, kept=0)
+    def _expect_own(self) -> None:
+        """Raise RuntimeError in another thread than that of the session."""
+        if threading.get_ident() != self._thread:
+            raise RuntimeError("a session belongs to the thread that has opened it")
+
+    def _ask(self, frame: bytes, read: Callable[[bytes], _Answer]) -> _Answer:
+        """Make a call of the open session, and return its answer as it is read so."""
+        self._expect_own()
+        if not self._is_open:
+            raise NoSession(Code.NO_SESSION)
+        return self._store._ask(frame, read)
 
     def attach(self, table: str) -> None:
         """Attach one more table."""
-        self._ask(read_nothing, f".session attach {spelled_name(table)}")
+        self._ask(_calls.attach(table), _calls.read_done)
 
     def changeset(self, *, for_sqlite: bool = False) -> bytes:
         """Return the changeset file of the net changes of the attached tables.
@@ -72,27 +86,20 @@ class Session:
         With `for_sqlite` its key columns are numbered, as SQLite's apply needs them for a key of
         several columns.
         """
-        changes = self._ask(read_bytes, ".session changeset c", ".hex c")
+        changes = self._ask(_calls.CHANGESET, _calls.read_changeset)
         return number_keys(changes) if for_sqlite else changes
 
     def is_empty(self) -> bool:
         """Return whether no row of the attached tables was written."""
-        return self._ask(read_truth, ".session isempty")
+        return self._ask(_calls.IS_EMPTY, _calls.read_truth)
 
     def undo(self) -> Report:
         """Restore the attached tables to their rows when they were attached."""
-        return self._ask(read_report, ".session undo")
+        return self._ask(_calls.UNDO, _calls.read_report)
 
     def close(self) -> None:
         """Close the session, and change no row."""
-        with self._store._lock:
-            if not self._is_open:
-                return
-            try:
-                self._ask(read_nothing, ".session close")
-            except StoreError as error:
-                # The program takes no more lines: the next one starts it again, without the
-                # session.
-                if error.code != Code.SCRIPT_TOO_LONG:
-                    raise
-            self._store._has_session = self._is_open = False
+        self._expect_own()
+        if self._is_open:
+            self._ask(_calls.CLOSE_SESSION, _calls.read_done)
+            self._is_open = False

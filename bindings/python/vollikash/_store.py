@@ -1,66 +1,85 @@
-"""Stores, by a program that runs the lines of the shell."""
+"""Stores, by a program that answers calls."""
 import contextlib
+import itertools
 import os
+import sys
+import time
+import warnings
 from types import TracebackType
 from typing import (
-    TYPE_CHECKING, Callable, Collection, Iterable, Iterator, List, Mapping, Optional, Sequence,
-    Tuple, Type, Union,
+    TYPE_CHECKING, Callable, Collection, Dict, Iterable, Iterator, List, Mapping, NamedTuple,
+    NoReturn, Optional, Sequence, Tuple, Type, TypeVar, Union,
 )
 
-from . import _exchange
-from ._asking import KEPT, TIMEOUT, Asker
-from ._deciding import Decider, Handler, PendingConflict, decided, expected
-from ._edits import Edits, Row, TableEdits, refusal
-from ._errors import Code, ConflictError, ProgramError, StoreError
-from ._files import Bytes, as_bytes, invert
-from ._lines import (
-    CHOICES, Choice, Conflict, Kind, Report, as_line, read_nothing, read_report, read_rows,
-    spelled, spelled_name,
+from . import _calls, _exchange
+from ._causes import explain_opening
+from ._conflicts import CHOICES, Choice, Handler, Report, decided
+from ._errors import (
+    Busy, Code, Interrupted, Kind, NoRow, NoTransaction, ProgramError, StoreError, StoreFault,
+    TableExists, TransactionEnded, UnknownColumn,
 )
-from ._process import LONGEST_FILE, fits_program
+from ._files import Bytes, as_bytes
+from ._process import Ahead, Process
 from ._schema import Schema
 from ._session import Session
 from ._undo import UndoStack
-from ._values import Value, shown
+from ._values import Row, Value
 
 if TYPE_CHECKING:
     import sqlite3
 
-# The choices of an apply that ends at the first conflict.
-_ABORTS: Mapping[Kind, Choice] = {
-    "data": "abort", "notfound": "abort", "conflict": "abort", "constraint": "abort",
-}
+Path = Union[str, bytes, "os.PathLike[str]", "os.PathLike[bytes]"]
 
-# How many bytes the file of a store has at most in which the rows of conflicts are looked for.
-LARGEST_SEARCHED = 1 << 24
+# The path of a store in memory.
+_MEMORY = b":memory:"
 
-# What a conflict of the changeset of edits is the error of.
-_REFUSALS = {
-    "conflict": Code.KEY_TAKEN, "notfound": Code.NO_ROW, "constraint": Code.NOT_NULL,
-}
+# How many rows are read by one call, and how many bytes of calls are sent at once.
+_PAGE, _SENT = 512, 1 << 14
 
-# Why a long changeset is refused, and what can be done.
-_TOO_LONG = (
-    f"in memory and in a session a changeset has at most {LONGEST_FILE} bytes: close the session, "
-    "take a store in a file, or apply parts of it"
-)
+# The shortest and the longest pause before a file that is in use is tried again, in seconds.
+_PAUSE, _LONGEST_PAUSE = 0.01, 0.25
+
+# How often a roll back is tried if memory runs out.
+_TRIES = 3
+
+_T = TypeVar("_T")
 
 
-def _assigned(values: Mapping[str, Value], between: str) -> str:
-    """Return columns with their values."""
-    if not values:
-        raise ValueError("no column is named")
-    return between.join(f"{spelled_name(name)}={spelled(value)}" for name, value in values.items())
+class _Table(NamedTuple):
+    """What edits by names need of a table."""
+
+    name: str
+    schema: Schema
+    places: Dict[str, int]
+
+    def expect(self, names: Iterable[str]) -> None:
+        """Raise `UnknownColumn` for a name that is no column's."""
+        for name in names:
+            if name not in self.places:
+                raise UnknownColumn(Code.UNKNOWN_COLUMN, self.name, name)
+
+    def key(self, fields: Mapping[str, bytes]) -> List[bytes]:
+        """Return the fields of the key that conditions name."""
+        try:
+            key = [fields[name] for name in self.schema.key]
+        except KeyError:
+            key = []
+        if len(key) != len(fields):
+            self.expect(fields)
+            raise UnknownColumn(Code.UNKNOWN_COLUMN, self.name)
+        return key
+
+    def key_places(self) -> List[int]:
+        """Return the places of the key's columns."""
+        return [self.places[name] for name in self.schema.key]
 
 
-def _declared(
-    columns: Iterable[str], key: Iterable[str], refuses: Iterable[str]
-) -> Tuple[List[str], List[str], List[str]]:
-    """Return the names that a declaration has. Raise ValueError if they make no table."""
+def _declared(columns: Iterable[str], key: Iterable[str], refuses: Iterable[str]) -> Schema:
+    """Return what is declared so. Raise ValueError if it makes no table."""
     for what, given in (("columns", columns), ("key", key), ("refuses", refuses)):
         if isinstance(given, str):
             raise ValueError(f"{what} is a collection of names, and not the one name {given!r}")
-    names, keys, marked = list(columns), list(key), list(refuses)
+    names, keys, marked = tuple(columns), list(key), list(refuses)
     if not names:
         raise ValueError("columns is empty: a table has at least one column")
     if not keys:
@@ -69,46 +88,90 @@ def _declared(
         for name in listed:
             if name not in names:
                 raise ValueError(f"{what} has {name!r}, which is no column's name")
-    return names, keys, marked
+    return Schema(
+        names, tuple(name for name in names if name in keys),
+        tuple(name for name in names if name in marked and name not in keys),
+    )
 
 
-def _named(error: ConflictError, found: Optional[ConflictError]) -> ConflictError:
-    """Return an error of the program with the key that was found for it."""
-    if found is None or (found.number, found.detail) != (error.number, error.detail):
-        return error
-    return ConflictError(error.number, error.name, error.detail, found.key)
-
-
-def _insert_each(edits: TableEdits, rows: Iterable[Sequence[Value]]) -> None:
-    """Insert rows. An error says which one is refused."""
+def _insertions(table: str, rows: Iterable[Sequence[Value]]) -> Iterator[bytes]:
+    """Yield the call that inserts each row. Raise ValueError for one that is none."""
     for number, row in enumerate(rows, 1):
-        if isinstance(row, (str, bytes, Mapping)):
+        if type(row) is not tuple and isinstance(row, (str, bytes, Mapping)):
             kind = type(row).__name__
             raise ValueError(f"row {number}: a row has its values in order, and is no {kind}")
         try:
-            edits.insert(row)
-        except StoreError as error:
-            raise refusal(error.code, f"in row {number}") from None
+            yield _calls.row_call(_calls.INSERT, table, row)
         except ValueError as error:
             raise ValueError(f"row {number}: {error}") from None
 
 
-class Store(Asker):
+def _kept(frames: Iterator[bytes], kept: List[bytes]) -> Iterator[bytes]:
+    """Yield calls, and keep them in a list."""
+    for frame in frames:
+        kept.append(frame)
+        yield frame
+
+
+def _unfinished(error: Interrupted) -> Interrupted:
+    """Return what is raised if a call was interrupted before its last part."""
+    return Interrupted(None if error.is_done is None else False)
+
+
+def _send(ahead: Ahead, frames: Iterator[bytes]) -> None:
+    """Send calls until one is refused, and wait for their answers."""
+    batch: List[bytes] = []
+    size = 0
+    for frame in frames:
+        batch.append(frame)
+        size += len(frame)
+        if size >= _SENT:
+            ahead.send(b"".join(batch), len(batch))
+            if ahead.others():
+                break
+            batch, size = [], 0
+    else:
+        ahead.send(b"".join(batch), len(batch))
+    ahead.settle()
+
+
+def _task() -> Optional[object]:
+    """Return the task of asyncio that runs in this thread, if one does."""
+    asyncio = sys.modules.get("asyncio")
+    if asyncio is None:
+        return None
+    try:
+        task: Optional[object] = asyncio.current_task()
+    except RuntimeError:
+        return None
+    return task
+
+
+class Store:
     """A store in a file, or in memory for the path ":memory:". Made by `open`.
 
-    Several threads can share a store: a lock lets one call or one transaction through at a time.
-    Each call is one or two lines of the shell. An edit that is too long for a line, and a
-    transaction, is the apply of a changeset.
+    Several threads can share a store: a lock lets one call or one transaction through at a time. A
+    transaction belongs to the thread, and under asyncio to the task, that has begun it. Another
+    thread waits for its end, and another task of the thread gets RuntimeError.
 
-    A refused call raises `StoreError`, `ConflictError` or `ChangesetError`, and changes nothing. A
-    value that no row can hold, or a name that is no text, raises ValueError before anything is sent. If the program
-    is missing, has ended or does not answer in time, that is `ProgramError`, and the store is
-    closed.
+    A refused call raises `StoreError`, or `ChangesetError` for a file that is no changeset, and
+    changes nothing. Each can also raise MemoryError if the program runs out of memory, and
+    `ProgramError` if it is missing, has ended or does not answer in time. Then the store is closed.
+    What no call can have, such as a float, raises ValueError before anything is sent.
 
-    A program takes 16777216 bytes of lines. After that a store in a file is opened again. A store
-    in memory, or with an open session, raises `StoreError` with ScriptTooLong before anything is
-    sent.
+    Ctrl-C within a call raises `Interrupted` after its answer, and the store remains open.
     """
+
+    def __init__(self, process: Process, path: str) -> None:
+        self._process, self._path = process, path
+        # Whether a transaction is open, its task, and what it has read of tables.
+        self._is_begun = False
+        self._owner: Optional[object] = None
+        self._tables: Dict[str, _Table] = {}
+        # Whether a function decides conflicts.
+        self._is_deciding = False
+        # Whether a call has to be looked at before it is sent.
+        self._is_watched = False
 
     def __enter__(self) -> "Store":
         return self
@@ -121,10 +184,67 @@ class Store(Asker):
     ) -> None:
         self.close()
 
+    def __repr__(self) -> str:
+        state = "open" if self._process.is_open else "closed"
+        return f"<vollikash.Store {self._path!r}, {state}>"
+
+    def __reduce__(self) -> NoReturn:
+        raise TypeError("a store cannot be copied or pickled")
+
+    def __del__(self) -> None:
+        # `__init__` may not have been called.
+        process = self.__dict__.get("_process")
+        if process is not None and process.is_open:
+            warnings.warn(f"{self!r} was not closed", ResourceWarning, source=self)
+
     def close(self) -> None:
-        """End the program. What was done remains in the file."""
-        with self._lock:
+        """End the program. What was done remains in the file, and an open transaction is rolled
+        back. The calls of a closed store raise `ProgramError`, but for this one.
+        """
+        with self._process.lock:
             self._process.close()
+
+    def _expect_allowed(self, is_read: bool) -> None:
+        """Raise RuntimeError for a call that is not allowed at this time."""
+        if self._owner is not None and self._owner is not _task():
+            raise RuntimeError("another task has a transaction open")
+        if self._is_deciding and not is_read:
+            raise RuntimeError("a function that decides conflicts can only read the store")
+
+    def _tell(self, frame: bytes) -> None:
+        """Make a call that returns nothing."""
+        process = self._process
+        with process.lock:
+            if self._is_watched:
+                self._expect_allowed(False)
+            answer = process.ask(frame)
+            if answer != _calls.DONE:
+                self._answer(answer, _calls.read_done)
+
+    def _ask(self, frame: bytes, read: Callable[[bytes], _T], is_read: bool = False) -> _T:
+        """Make a call, and return its answer as it is read so."""
+        with self._process.lock:
+            if self._is_watched:
+                self._expect_allowed(is_read)
+            return self._answer(self._process.ask(frame), read)
+
+    def _answer(self, answer: bytes, read: Callable[[bytes], _T]) -> _T:
+        """Return an answer as it is read so. Raise the error if the call is refused."""
+        try:
+            return read(answer)
+        except ProgramError:
+            self._process.end()
+            raise
+
+    def _table(self, table: str) -> _Table:
+        """Return what edits by names need of a table. A transaction keeps it."""
+        known = self._tables.get(table)
+        if known is None:
+            schema = self.schema(table)
+            known = _Table(table, schema, {name: at for at, name in enumerate(schema.columns)})
+            if self._is_begun:
+                self._tables[table] = known
+        return known
 
     def create(
         self,
@@ -139,160 +259,240 @@ class Store(Asker):
 
         Key columns refuse None anyway. No columns, an empty key, and a name in `key` or `refuses`
         that is not a column raise ValueError before anything is sent. With `exist_ok` a table that
-        exists with these columns is kept.
+        exists with these columns is kept. Otherwise that is `TableExists`.
         """
-        names, keys, marked = _declared(columns, key, refuses)
-        named = ", ".join(spelled_name(name) + " NOT NULL" * (name in marked) for name in names)
-        key_names = ", ".join(map(spelled_name, keys))
-        schema = Schema(
-            tuple(names),
-            tuple(name for name in names if name in keys),
-            tuple(name for name in names if name in marked and name not in keys),
-        )
-        line = f"CREATE TABLE {spelled_name(table)}({named}, PRIMARY KEY({key_names}));"
-        with self._lock:
+        schema = _declared(columns, key, refuses)
+        frame = _calls.declare(table, schema)
+        with self._process.lock:
+            self._tables.clear()
             try:
-                self._ask(read_nothing, line)
-            except StoreError as error:
-                is_same = error.code == Code.TABLE_EXISTS and self._schemas.get(table) == schema
-                if not (exist_ok and is_same):
+                self._tell(frame)
+            except TableExists:
+                if not exist_ok or self.schema(table) != schema:
                     raise
-            self._schemas[table] = schema
 
     def tables(self) -> List[str]:
         """Return the names of the tables, sorted by their bytes."""
-        with self._lock:
-            self._process.expect_open()
-            return sorted(self._schemas, key=str.encode)
+        return self._ask(_calls.TABLES, _calls.read_names, is_read=True)
 
     def schema(self, table: str) -> Schema:
         """Return the columns of a table, those of its key, and those outside it that refuse None.
         """
-        with self._lock:
-            self._process.expect_open()
-            schema = self._schemas.get(table)
-        if schema is None:
-            raise refusal(Code.NO_TABLE)
-        return schema
+        return self._ask(_calls.schema(table), _calls.read_schema, is_read=True)
 
-    def insert(self, table: str, *values: Value) -> None:
-        """Insert one row, with a value for each column."""
-
-        def line() -> Optional[str]:
-            row = ", ".join(map(spelled, values))
-            return f"INSERT INTO {spelled_name(table)} VALUES({row});" if values else None
-
-        self._edit(table, line, lambda edits: edits.insert(values))
-
-    def insert_many(self, table: str, rows: Iterable[Sequence[Value]]) -> None:
-        """Insert rows in one transaction. If one is refused, none is, and the error says which."""
-        with self._edited(table) as edits:
-            _insert_each(edits, rows)
-
-    def update(self, table: str, values: Mapping[str, Value], where: Mapping[str, Value]) -> None:
-        """Set columns of the row whose key columns have the values of `where`."""
-
-        def line() -> str:
-            row, key = _assigned(values, ", "), _assigned(where, " AND ")
-            return f"UPDATE {spelled_name(table)} SET {row} WHERE {key};"
-
-        self._edit(table, line, lambda edits: edits.update(values, where))
-
-    def delete(self, table: str, where: Mapping[str, Value]) -> None:
-        """Delete the row whose key columns have the values of `where`."""
-
-        def line() -> str:
-            return f"DELETE FROM {spelled_name(table)} WHERE {_assigned(where, ' AND ')};"
-
-        self._edit(table, line, lambda edits: edits.delete(where))
-
-    def _edit(
-        self, table: str, line: Callable[[], Optional[str]], edit: Callable[[TableEdits], None]
-    ) -> None:
-        """Make an edit by a line, or by a changeset if no line can hold it."""
-        with self._lock:
-            if self._edits is None:
-                spelled_edit = line()
-                if spelled_edit is not None and fits_program(as_line(spelled_edit)):
-                    self._ask(read_nothing, spelled_edit)
-                    return
-            with self._edited(table) as edits:
-                edit(edits)
-
-    def rows(self, table: str) -> Iterator[Row]:
-        """Return an iterator over the current rows of a table, by the bytes of their keys."""
-        with self._lock:
-            if self._edits is None:
-                return self._select(table)
-            return iter(list(self._edits.table(table).rows()))
+    def count(self, table: str) -> int:
+        """Return the number of rows of a table."""
+        return self._ask(_calls.count(table), _calls.read_number, is_read=True)
 
     def get(self, table: str, *key: Value) -> Optional[Row]:
         """Return the row of a key, or None. The values of the key are in the order of its columns.
-
-        The program prints all rows for that.
         """
-        with self._lock:
-            edits = self._edits or Edits(self.schema, self._select)
-            return edits.table(table).get(key)
+        return self._ask(_calls.row_call(_calls.GET, table, key), _calls.read_row, is_read=True)
 
-    def _select(self, table: str) -> Iterator[Row]:
-        """Return an iterator over the rows of a table as they are without a transaction."""
-        return read_rows(self._ask_at_once(str, f"SELECT * FROM {spelled_name(table)};"))
+    def rows(
+        self,
+        table: str,
+        after: Union[Value, Sequence[Value]] = None,
+        limit: Optional[int] = None,
+    ) -> Iterator[Row]:
+        """Return an iterator over the rows of a table, by the bytes of their keys.
+
+        It begins after the key `after`, which need not exist, and returns at most `limit` rows. A
+        key of several columns is a tuple. The rows are read some hundred at a time, the first ones
+        at once, and no table is held. So an edit is seen by the rows that are read after it. If
+        the store is closed meanwhile, the iterator raises `ProgramError`.
+        """
+        if limit is not None and (not isinstance(limit, int) or limit < 0):
+            raise ValueError(f"limit is a number of rows, and not {limit!r}")
+        is_key = after is None or isinstance(after, (tuple, list))
+        key: Optional[Sequence[Value]] = after if is_key else (after,)  # type: ignore[assignment]
+        first = self._page(table, key, limit)
+        return itertools.chain.from_iterable(self._pages(table, first, limit))
+
+    def _page(
+        self, table: str, after: Optional[Sequence[Value]], limit: Optional[int]
+    ) -> Tuple[List[Row], bool]:
+        """Return some rows of a table, and whether there are more."""
+        size = _PAGE if limit is None else min(limit, _PAGE)
+        return self._ask(_calls.rows(table, after, size), _calls.read_rows, is_read=True)
+
+    def _pages(
+        self, table: str, first: Tuple[List[Row], bool], left: Optional[int]
+    ) -> Iterator[List[Row]]:
+        """Yield the rows of a table in pages, of which the first one is read."""
+        page, has_more = first
+        places: List[int] = []
+        while page:
+            self._process.expect_open()
+            yield page
+            if left is not None:
+                left -= len(page)
+            if not has_more or left == 0:
+                break
+            if not places:
+                places = self._table(table).key_places()
+            page, has_more = self._page(table, [page[-1][place] for place in places], left)
+        self._process.expect_open()
+
+    def insert(self, table: str, *values: Value) -> None:
+        """Insert one row, with a value for each column."""
+        self._tell(_calls.row_call(_calls.INSERT, table, values))
+
+    def put(self, table: str, *values: Value) -> None:
+        """Insert one row, or put it in the place of the row of its key."""
+        self._tell(_calls.row_call(_calls.PUT, table, values))
+
+    def insert_many(self, table: str, rows: Iterable[Sequence[Value]]) -> None:
+        """Insert rows in one transaction, or in the open one.
+
+        If a row is refused, none of them is inserted. The error has the row's number, from 1, as
+        `row`. An open transaction goes on without them.
+        """
+        with self._process.lock:
+            is_own = not self._is_begun
+            with self._joined():
+                self._insert_rows(table, _insertions(table, rows), is_own)
+
+    def _insert_rows(self, table: str, frames: Iterator[bytes], is_own: bool) -> None:
+        """Make the calls that insert rows in a transaction, which is rolled back after an error if
+        it is their own. Otherwise leave none of the rows after one.
+        """
+        kept: List[bytes] = []
+        ahead = self._process.ahead()
+        try:
+            with ahead:
+                _send(ahead, frames if is_own else _kept(frames, kept))
+            self._expect_done(ahead)
+        except BaseException:
+            if not is_own and self._process.is_open:
+                self._take_back(table, ahead.done(kept))
+            raise
+
+    def _expect_done(self, ahead: Ahead) -> None:
+        """Raise the error of the first call that was refused, with its number."""
+        for number, answer in ahead.others():
+            try:
+                self._answer(answer, _calls.read_done)
+            except StoreError as error:
+                error.row = number + 1
+                raise
+            except MemoryError as error:
+                raise MemoryError(f"row {number + 1}: {error}") from None
+
+    def _take_back(self, table: str, frames: Sequence[bytes]) -> None:
+        """Delete the rows that these calls have inserted, or end the program, and with it the
+        transaction, if that fails.
+        """
+        back = self._process.ahead()
+        try:
+            places = self._table(table).key_places() if frames else []
+            rows = map(_calls.inserted_row, frames)
+            keys = ([row[place] for place in places] for row in rows)
+            with back:
+                _send(back, (_calls.row_call(_calls.DELETE, table, key) for key in keys))
+            self._expect_done(back)
+        except TransactionEnded:
+            pass
+        except BaseException:
+            self._process.end()
+            raise
+
+    def update(self, table: str, values: Mapping[str, Value], where: Mapping[str, Value]) -> None:
+        """Set columns of the row whose key columns have the values of `where`.
+
+        The row is read, and written whole.
+        """
+        changed, named = _calls.named_fields(table, values), _calls.named_fields(table, where)
+        with self._process.lock:
+            try:
+                known = self._table(table)
+                known.expect(changed)
+                key = known.key(named)
+                row = self._ask(_calls.key_call(_calls.GET, table, key), _calls.read_row)
+            except Interrupted as error:
+                raise _unfinished(error) from error
+            if row is None:
+                raise NoRow(Code.NO_ROW, table, None, tuple(where[it] for it in known.schema.key))
+            pairs = zip(known.schema.columns, row)
+            fields = [changed.get(name) or _calls.field(value) for name, value in pairs]
+            self._tell(_calls.update(table, key, fields))
+
+    def delete(self, table: str, where: Mapping[str, Value]) -> None:
+        """Delete the row whose key columns have the values of `where`."""
+        named = _calls.named_fields(table, where)
+        with self._process.lock:
+            try:
+                key = self._table(table).key(named)
+            except Interrupted as error:
+                raise _unfinished(error) from error
+            self._tell(_calls.key_call(_calls.DELETE, table, key))
 
     @contextlib.contextmanager
     def transaction(self) -> Iterator[None]:
-        """Carry out the edits of the `with` block in one transaction at its end.
+        """Carry out the calls of the `with` block in one transaction.
 
-        If the block raises an exception, none is carried out. An edit that needs a row to exist or
-        not to exist may be refused only at the end of the block. Then all of them are. In the block
-        `rows` and `get` see its edits. Other calls raise RuntimeError.
+        Reads of the block see its writes. A refused call leaves the transaction open. If the block
+        raises an exception, the transaction is rolled back. If the commit is refused, nothing is
+        carried out. A block in the block raises RuntimeError. Sessions cannot be used in it: their
+        calls raise `TransactionOpen`.
         """
-        with self._lock:
-            self._expect_no_transaction()
-            self._edits = edits = Edits(self.schema, self._select)
+        with self._process.lock:
+            self._expect_allowed(False)
+            if self._is_begun:
+                raise RuntimeError("a transaction is open")
+            self._is_begun, self._owner = True, _task()
+            self._is_watched = self._owner is not None
             try:
+                self._begin()
                 yield
+                self._tell(_calls.COMMIT)
+            except BaseException:
+                self._roll_back()
+                raise
             finally:
-                self._edits = None
-            self._carry_out(edits)
+                self._is_begun, self._owner, self._is_watched = False, None, False
+                self._tables.clear()
+
+    def _begin(self) -> None:
+        """Begin a transaction."""
+        try:
+            self._tell(_calls.BEGIN)
+        except Interrupted as error:
+            raise _unfinished(error) from error
+
+    def _roll_back(self) -> None:
+        """Roll back the transaction, if one is open, or end the program, which does so too."""
+        for _ in range(_TRIES):
+            try:
+                _calls.read_done(self._process.ask(_calls.ROLL_BACK))
+                return
+            except NoTransaction:
+                return
+            except MemoryError:
+                continue
+            except (ProgramError, StoreError):
+                break
+            except Interrupted as error:
+                if not error.is_done:
+                    self._process.end()
+                raise
+        self._process.end()
 
     @contextlib.contextmanager
-    def _edited(self, table: str) -> Iterator[TableEdits]:
-        """Yield the edits of a table in the open transaction, or in one of the block."""
-        with self._lock:
-            if self._edits is not None:
-                yield self._edits.table(table)
-                return
-            edits = Edits(self.schema, self._select)
-            yield edits.table(table)
-            self._carry_out(edits)
-
-    def _carry_out(self, edits: Edits) -> None:
-        """Apply the changeset of edits."""
-        file = edits.to_bytes()
-        if not file:
-            return
-        try:
-            report = self._apply_chosen(file, {**_ABORTS, "data": "replace"})
-        except ConflictError as error:
-            raise refusal(_REFUSALS[error.kind], self._culprit(file)) from None
-        if report.skipped:
-            raise ProgramError("the file has other tables than when the store was opened")
-
-    def _culprit(self, file: bytes) -> str:
-        """Return the table and the key of the first edit that is refused, as text."""
-        found: List[str] = []
-
-        def note(conflict: PendingConflict) -> Choice:
-            if conflict.kind == "data":
-                return "replace"
-            change = conflict.change
-            found.append(f"in table {shown(change.table)}, key {change.key!r:.80}")
-            return "abort"
-
-        with contextlib.suppress(ConflictError):
-            decided(file, self._schemas, self._select, Decider(note, False))
-        return "".join(found)
+    def _joined(self) -> Iterator[None]:
+        """Carry out the block in the open transaction, or in one of its own. A KeyboardInterrupt in
+        one of its own says that nothing is done.
+        """
+        with self._process.lock:
+            self._expect_allowed(False)
+            is_own = not self._is_begun
+            with self.transaction() if is_own else contextlib.nullcontext():
+                try:
+                    yield
+                except KeyboardInterrupt as error:
+                    if isinstance(error, Interrupted) and not is_own:
+                        raise
+                    raise Interrupted(False) from error
 
     def apply(
         self,
@@ -305,7 +505,7 @@ class Store(Asker):
         ignore_noop: bool = False,
         on_conflict: Optional[Handler] = None,
     ) -> Report:
-        """Apply a changeset in one transaction, and return a report.
+        """Apply a changeset in one transaction, or in the open one, and return a report.
 
         `data`, `notfound`, `conflict` and `constraint` are the choices for a row that differs, that
         does not exist, that exists, and that would have None in a column that refuses it. "omit"
@@ -316,7 +516,7 @@ class Store(Asker):
 
         With `on_conflict` that function is called in place of these choices, once for each conflict
         in the order of the file, with a `PendingConflict`. It returns the choice. Nothing is
-        written before its last call. It can read rows; other calls of the store raise RuntimeError.
+        written before its last call. It can read the store; other calls raise RuntimeError.
         """
         choices: Mapping[Kind, Choice] = {
             "data": data, "notfound": notfound, "conflict": conflict, "constraint": constraint
@@ -326,154 +526,60 @@ class Store(Asker):
                 raise ValueError(f"{kind} is one of {', '.join(CHOICES)}, and not {choice!r}")
             if on_conflict is not None and choice != "abort":
                 raise ValueError(f"{kind} is chosen, and on_conflict too")
-        given = as_bytes(file)
-        with self._lock:
-            if on_conflict is not None:
-                return self._apply_decided(given, on_conflict, ignore_noop)
-            return self._apply_named(given, choices, ignore_noop)
+        given, ignores = as_bytes(file), bool(ignore_noop)
+        if on_conflict is not None:
+            with self._joined():
+                return self._apply_decided(given, on_conflict, ignores)
+        frame = _calls.apply(given, ignores, choices.values())
+        return self._ask(frame, _calls.read_report)
 
-    def _apply_named(
-        self, file: bytes, choices: Mapping[Kind, Choice], ignore_noop: bool
-    ) -> Report:
-        """Apply a changeset, and name the rows of its conflicts.
-
-        They are looked for after an apply that has ended at the first one, and has changed nothing.
-        """
-        if not self._is_searched(file):
-            return self._apply_chosen(file, choices, ignore_noop)
-        try:
-            return self._apply_chosen(file, _ABORTS, ignore_noop)
-        except ConflictError as error:
-            conflicts, ending = self._expected(file, choices, ignore_noop)
-            if choices == _ABORTS:
-                raise _named(error, ending) from None
-        try:
-            report = self._apply_chosen(file, choices, ignore_noop, is_loaded=True)
-        except ConflictError as error:
-            raise _named(error, ending) from None
-        is_same = [it[:3] for it in conflicts] == [it[:3] for it in report.conflicts]
-        return report._replace(conflicts=conflicts) if is_same else report
-
-    def _is_searched(self, file: bytes) -> bool:
-        """Return whether the rows of conflicts are looked for, which reads whole tables."""
-        if len(file) > LONGEST_FILE or self._path == ":memory:":
-            # What is in memory has come by the lines of one program.
-            return len(file) <= LONGEST_FILE
-        path = os.path.realpath(self._path)
-        files = [name for name in (path, f"{path}-wal") if os.path.exists(name)]
-        return sum(map(os.path.getsize, files)) <= LARGEST_SEARCHED
-
-    def _expected(
-        self, file: bytes, choices: Mapping[Kind, Choice], ignore_noop: bool
-    ) -> Tuple[List[Conflict], Optional[ConflictError]]:
-        """Return the conflicts that an apply will have, and the error that will end it."""
-        try:
-            return expected(file, self._schemas, self._select, choices, ignore_noop)
-        except (StoreError, ValueError):
-            # The program takes no more lines, or the rows cannot be asked for.
-            return [], None
-
-    def _apply_chosen(
-        self,
-        file: bytes,
-        choices: Mapping[Kind, Choice],
-        ignore_noop: bool = False,
-        *,
-        is_loaded: bool = False,
-    ) -> Report:
-        """Apply a changeset with these choices."""
-        words = [f"{kind}={choice}" for kind, choice in choices.items()]
-        line = " ".join([".apply f", *words, *["noop=ignore"] * ignore_noop])
-        options = [f"--{word}" for word in words] + ["--ignore-noop"] * ignore_noop
-        return self._apply(file, line, lambda: self._apply_by_command(file, options), is_loaded)
-
-    def _apply_decided(self, file: bytes, handler: Handler, ignore_noop: bool) -> Report:
+    def _apply_decided(self, file: bytes, handler: Handler, ignores_noop: bool) -> Report:
         """Apply a changeset whose conflicts a function decides."""
-        with self._lock:
-            self._expect_no_transaction()
-            self._expect_fit(file)
-            decider = Decider(handler, ignore_noop)
-            self._is_deciding = True
-            try:
-                kept = decided(file, self._schemas, self._select, decider)
-            finally:
-                self._is_deciding = False
-            choices: Mapping[Kind, Choice] = {**_ABORTS, "data": "replace", "conflict": "replace"}
-            report = self._apply_chosen(kept, choices, ignore_noop)
-            return report._replace(conflicts=decider.conflicts, skipped=decider.skipped)
-
-    def _apply(
-        self, file: bytes, line: str, by_command: Callable[[], Report], is_loaded: bool = False
-    ) -> Report:
-        """Apply a changeset by a line. If it is too long for one, apply it while the store is
-        closed. `is_loaded` says whether it was applied last.
-        """
-        with self._lock:
-            self._expect_no_transaction()
-            if len(file) <= LONGEST_FILE:
-                # A program that was started anew meanwhile has not loaded it.
-                if is_loaded and self._loader is self._process and self._process.fits([line], 0):
-                    return self._ask(read_report, line, kept=0)
-                load = f".load f {file.hex()}"
-                self._make_room([load, line], KEPT)
-                self._loader = self._process
-                return self._ask(read_report, load, line)
-            self._expect_fit(file)
-            self._process.expect_open()
-            self._process.close()
-            try:
-                return by_command()
-            finally:
-                self._process = self._start()
-
-    def _expect_fit(self, file: bytes) -> None:
-        """Raise the error of a changeset that is too long for this store as it is."""
-        is_kept = self._path == ":memory:" or self._has_session
-        if is_kept and len(file) > LONGEST_FILE:
-            raise refusal(Code.SCRIPT_TOO_LONG, _TOO_LONG)
+        try:
+            conflicts = self._ask(_calls.rehearse(file, ignores_noop), _calls.read_conflicts)
+            self._is_deciding = self._is_watched = True
+            choices = decided(conflicts, file, handler)
+        except Interrupted as error:
+            raise _unfinished(error) from error
+        finally:
+            self._is_deciding, self._is_watched = False, self._owner is not None
+        frame = _calls.apply_chosen(file, ignores_noop, conflicts, choices)
+        return self._ask(frame, _calls.read_report)
 
     def revert(self, file: Bytes) -> Report:
         """Apply the inverse of a changeset. A conflict raises `ConflictError`, and nothing is
         changed.
         """
-        given = as_bytes(file)
-        with self._lock:
-            try:
-                return self._apply(
-                    given, ".revert f", lambda: self._apply_by_command(invert(given), [])
-                )
-            except ConflictError as error:
-                if not self._is_searched(given):
-                    raise
-                _, ending = self._expected(invert(given), _ABORTS, False)
-                raise _named(error, ending) from None
+        return self._ask(_calls.revert(as_bytes(file)), _calls.read_report)
 
     def load_from(self, connection: "sqlite3.Connection", table: str) -> None:
-        """Copy a table of an ordinary SQLite database into the store, in one transaction.
+        """Copy a table of an ordinary SQLite database into the store, in one transaction, or in the
+        open one.
 
         The table is created, with its primary key and its NOT NULL columns, if the store does not
         have it. Generated columns are left out. A float, and a table without a primary key, raise
-        ValueError, and nothing is copied.
+        ValueError, and nothing is copied. In an open transaction the table that was created
+        remains.
         """
         schema = _exchange.read_schema(connection, table)
-        edits = Edits(lambda name: schema, lambda name: iter(()))
-        _insert_each(edits.table(table), _exchange.read_rows(connection, table, schema.columns))
-        with self._lock:
-            self._expect_no_transaction()
-            self._expect_fit(edits.to_bytes())
-            self.create(table, *schema, exist_ok=True)
-            self._carry_out(edits)
+        rows = _exchange.read_rows(connection, table, schema.columns)
+        with self._process.lock:
+            is_own = not self._is_begun
+            with self._joined():
+                self.create(table, *schema, exist_ok=True)
+                self._insert_rows(table, _insertions(table, rows), is_own)
 
     def save_to(self, connection: "sqlite3.Connection", table: str) -> None:
         """Copy a table into an ordinary SQLite database, in one transaction.
 
-        The table is created, without types, if the database does not have it. Else the rows are
-        added to it. A transaction that is open stays open. If the database has a table of this name
-        in another case, that is ValueError. What the database refuses is `sqlite3.Error`, and
+        The table is created, without types, if the database does not have it. Otherwise the rows
+        are added to it. A transaction that is open stays open. If the database has a table of this
+        name in another case, that is ValueError. What the database refuses is `sqlite3.Error`, and
         nothing is copied.
         """
-        schema = self.schema(table)
-        _exchange.write_rows(connection, table, schema, self.rows(table))
+        with self._process.lock:
+            schema = self.schema(table)
+            _exchange.write_rows(connection, table, schema, self.rows(table))
 
     def undo_stack(
         self,
@@ -491,15 +597,67 @@ class Store(Asker):
 
     def session(self, *tables: str) -> Session:
         """Open a session that records these tables. There is one at a time: a second one raises
-        StoreError.
+        `SessionOpen`.
         """
         return Session(self, tables)
 
 
-def open(path: Union[str, "os.PathLike[str]"], *, timeout: float = TIMEOUT) -> Store:
+def path_word(path: Path) -> bytes:
+    """Return a path as the program takes it. Raise ValueError for one that it cannot take."""
+    name = os.fsencode(path)
+    if name == _MEMORY:
+        return name
+    if not name or b"\0" in name:
+        raise ValueError(f"the path {path!r} is empty or has a zero character")
+    try:
+        os.path.abspath(name).decode()
+    except UnicodeDecodeError:
+        raise ValueError(f"the path {path!r} is not UTF-8") from None
+    # Otherwise these are an option, and a URI of SQLite.
+    return b"./" + name if name.startswith((b"-", b"file:")) else name
+
+
+def _opened(word: bytes, timeout: Optional[float], busy_timeout: float) -> Process:
+    """Return a program that has opened a store. While the file is in use, try again."""
+    deadline, pause = time.monotonic() + busy_timeout, _PAUSE
+    while True:
+        process = Process(word, timeout)
+        try:
+            version, _ = _calls.read_limits(process.ask(_calls.LIMITS))
+            if version != _calls.VERSION:
+                why = f"the program has version {version} of the calls, and not {_calls.VERSION}"
+                raise ProgramError(why)
+            return process
+        except Busy:
+            process.close()
+            if time.monotonic() + pause > deadline:
+                raise
+        except BaseException:
+            process.end()
+            raise
+        time.sleep(pause)
+        pause = min(2 * pause, _LONGEST_PAUSE)
+
+
+def open(
+    path: Path, *, timeout: Optional[float] = 60.0, busy_timeout: float = 5.0
+) -> Store:
     """Open the store in a file, or create it. For ":memory:" the store is in memory.
 
-    `timeout` is the number of seconds that a call may take. Raises `StoreError` if the file is not
-    a store or another program has it open, and `ProgramError` if there is no program.
+    `timeout` is the number of seconds that the program may be silent when it has to answer, or None
+    for any number. While another program has the file, it is tried again for `busy_timeout`
+    seconds. Then that is `Busy`. Another file that cannot be opened raises another `StoreError`, a
+    path that is not UTF-8 or has a zero character ValueError, and a program that is missing
+    `ProgramError`.
     """
-    return Store(path, timeout)
+    if timeout is not None and not timeout > 0:
+        raise ValueError(f"timeout is a number of seconds above 0, or None, and not {timeout!r}")
+    if not busy_timeout >= 0:
+        raise ValueError(f"busy_timeout is a number of seconds, and not {busy_timeout!r}")
+    word = path_word(path)
+    name = os.fsdecode(path)
+    try:
+        return Store(_opened(word, timeout, busy_timeout), name)
+    except StoreFault as error:
+        explain_opening(error, name)
+        raise

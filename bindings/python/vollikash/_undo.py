@@ -5,7 +5,7 @@ import os
 import tempfile
 from typing import TYPE_CHECKING, Any, Collection, Dict, Iterator, List, Optional, Tuple, Union
 
-from ._deciding import Handler
+from ._conflicts import Handler
 from ._errors import Error
 from ._files import invert
 from ._tables import stat

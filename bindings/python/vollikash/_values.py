@@ -26,16 +26,27 @@ Field = Union[int, str, bytes, None, Undefined]
 Record = Tuple[Field, ...]
 Op = Literal["insert", "update", "delete"]
 
-# The values of a key.
+# The values of a row, and those of a key.
+Row = Tuple[Value, ...]
 Key = Tuple[Value, ...]
 
-# How many characters of a name an error text shows.
-_SHOWN = 60
+# How many characters of a name and of a key an error text shows.
+_SHOWN, _SHOWN_KEY = 60, 80
 
 
 def shown(name: str) -> str:
     """Return a name as error texts show it: on one line, and not too long."""
     return repr(name) if len(name) <= _SHOWN else f"{name[:_SHOWN]!r}.."
+
+
+def shown_key(key: Key) -> str:
+    """Return the values of a key as error texts show them: on one line, and not too long."""
+    # What is cut here is longer than what is shown.
+    text = repr(tuple(
+        value[: _SHOWN_KEY + 1] if isinstance(value, (str, bytes)) else value
+        for value in key[:_SHOWN_KEY]
+    ))
+    return text if len(text) <= _SHOWN_KEY else f"{text[:_SHOWN_KEY]}.."
 
 
 def defined(record: Record) -> Key:

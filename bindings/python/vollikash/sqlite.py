@@ -10,13 +10,13 @@ import functools
 import os
 from types import TracebackType
 from typing import (
-    Any, Callable, Dict, List, Literal, NamedTuple, Optional, Sequence, Tuple, Type, Union,
+    Any, Callable, Dict, List, Literal, NamedTuple, Optional, Sequence, Tuple, Type, Union, cast,
 )
 
 from ._changes import Change
-from ._errors import Code, ConflictError, Error
+from ._conflicts import CHOICES, Choice
+from ._errors import KINDS, Code, ConflictError, Error
 from ._files import Bytes, as_bytes, check
-from ._lines import CHOICES, Choice
 from ._values import UNDEFINED, Op, Record, defined
 
 # What ordinary tables hold.
@@ -25,7 +25,6 @@ SqliteRow = Tuple[SqliteValue, ...]
 
 Kind = Literal["data", "notfound", "conflict", "constraint", "foreign_key"]
 
-_KINDS: Tuple[Kind, ...] = ("data", "notfound", "conflict", "constraint", "foreign_key")
 _ANSWERS = {"omit": 0, "replace": 1, "abort": 2}
 
 _OK, _ABORT, _ROW, _DONE = 0, 4, 100, 101
@@ -201,13 +200,14 @@ class _Deciding:
     def __call__(self, _: Optional[int], kind: int, cursor: int) -> int:
         """Return SQLite's number for what is to be done about a conflict."""
         try:
-            return _ANSWERS[self._choose(_KINDS[kind - 1], cursor)]
+            return _ANSWERS[self._choose(kind, cursor)]
         except BaseException as error:
             self.error = error
             return _ANSWERS["abort"]
 
-    def _choose(self, kind: Kind, cursor: int) -> Choice:
+    def _choose(self, number: int, cursor: int) -> Choice:
         """Return the choice for a conflict. Raise the error that ends the apply."""
+        kind = cast(Kind, KINDS[number])
         change = None if kind == "foreign_key" else _change(cursor)
         current: Optional[SqliteRow] = None
         if change is not None and kind in ("data", "conflict"):
@@ -216,12 +216,12 @@ class _Deciding:
         choice = "abort" if handler is None else handler(PendingConflict(kind, change, current))
         if choice not in CHOICES:
             raise ValueError(f"a choice is one of {', '.join(CHOICES)}, and not {choice!r}")
-        table = "" if change is None else change.table.replace("'", "''")
-        key = None if change is None else defined(change.key)
-        if choice == "abort":
-            raise ConflictError(Code.ABORT, Code.ABORT.title, f"{kind} '{table}'", key)
-        if choice == "replace" and kind not in ("data", "conflict"):
-            raise ConflictError(Code.MISUSE, Code.MISUSE.title, f"{kind} '{table}'", key)
+        is_misuse = choice == "replace" and kind not in ("data", "conflict")
+        if choice == "abort" or is_misuse:
+            code = Code.MISUSE if is_misuse else Code.ABORT
+            if change is None:
+                raise ConflictError(code, detail=number)
+            raise ConflictError(code, change.table, None, defined(change.key), number)
         return choice
 
 

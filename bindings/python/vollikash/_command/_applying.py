@@ -1,49 +1,35 @@
 """`vollikash apply`: as `changeset FILE apply STORE`, with reasons in words."""
 import argparse
-import contextlib
 import os
 import sys
-from typing import Dict, List, Mapping, Sequence, TextIO, Tuple, cast
+from typing import Dict, Mapping, Sequence, TextIO, Tuple, cast
 
-from .._deciding import PendingConflict
-from .._errors import ChangesetError, Code, ConflictError, ProgramError, StoreError
+from .._conflicts import KINDS, Choice, Conflict, PendingConflict, Report
+from .._errors import ChangesetError, Code, ConflictError, Kind, ProgramError, StoreError
 from .._files import check
-from .._lines import Choice, Conflict, Kind, Report
 from .._store import Store, open as open_store
-from ._messages import CONFLICTS, Failure, complain, of_changeset, of_conflict, of_store
-from ._names import opened
+from ._messages import CONFLICTS, Failure, complain, of_changeset, of_conflict, of_store, quoted
+from ._names import has_records
 from ._progress import Progress
 from ._show import Lines
 from ._streams import Input, made, read_input, text_output
-from ._texts import Paint, identifier, is_terminal, literal, literals, printable, title
-
-# A store takes its time: Ctrl-C ends it.
-PATIENCE = 86400.0
-
-# SQLite's numbers of conflicts, which the program prints.
-_NUMBERS: Mapping[str, int] = {"data": 1, "notfound": 2, "conflict": 3, "constraint": 4}
+from ._texts import Paint, identifier, is_terminal, literal, literals, title
 
 _KEYS: Mapping[str, Choice] = {"o": "omit", "r": "replace", "a": "abort"}
 
 _SKIPPED = "the store has no such table, or has it with another key or fewer columns"
 
 
-def _quoted(table: str) -> str:
-    """Return the name of a table as the program prints it, on one line."""
-    return "'" + printable(table).replace("'", "''") + "'"
-
-
 def _line_of(conflict: Conflict) -> str:
     """Return the line of a conflict that was omitted or replaced."""
     kind, choice, table, key = conflict
-    where = "" if key is None else f"key {literals(key)}: "
-    words = f"conflict {_NUMBERS[kind]} {kind} {choice} {_quoted(table)}"
-    return f"{words}: {where}{CONFLICTS[kind]}"
+    words = f"conflict {KINDS.index(kind) + 1} {kind} {choice} {quoted(table)}"
+    return f"{words}: key {literals(key)}: {CONFLICTS[kind]}"
 
 
 def _print_report(report: Report) -> None:
     """Print the lines that the program prints, with reasons."""
-    lines = [f"warning 17 skipped {_quoted(table)}: {_SKIPPED}" for table in report.skipped]
+    lines = [f"warning 17 skipped {quoted(table)}: {_SKIPPED}" for table in report.skipped]
     lines += map(_line_of, report.conflicts)
     if report.ignored:
         lines.append(f"ignored {report.ignored}")
@@ -108,8 +94,7 @@ class _Questions:
 
 def _chosen(arguments: argparse.Namespace) -> Dict[Kind, Choice]:
     """Return the choices that options name."""
-    kinds: List[Kind] = ["data", "notfound", "conflict", "constraint"]
-    named = {kind: getattr(arguments, kind) for kind in kinds}
+    named = {kind: getattr(arguments, kind) for kind in KINDS}
     return {kind: choice for kind, choice in named.items() if choice is not None}
 
 
@@ -136,30 +121,33 @@ def _failure(given: Input, store: str, error: Exception) -> Failure:
     return Failure(store, str(error))
 
 
-def _made_by(path: str) -> str:
-    """Return what the first opening of a store makes, or an empty text."""
+def _made_by(path: str, is_allowed: bool) -> str:
+    """Return what the first opening of a store makes, or an empty text. Raise `Failure` for a new
+    store that is not allowed.
+    """
     if path == ":memory:":
         return ""
     if not os.path.exists(path):
+        if not is_allowed:
+            raise Failure(path, "there is no such store. --create makes it")
         return "a new store is made"
     try:
-        with contextlib.closing(opened(path)) as base:
-            known = base.execute("SELECT 1 FROM sqlite_master WHERE name = 'rec'").fetchone()
+        return "" if has_records(path) else "the database becomes a store, by a table rec"
     except Failure:
         return ""
-    return "" if known else "the database becomes a store, by a table rec"
 
 
 def apply(arguments: argparse.Namespace) -> int:
     """Apply a changeset to a store, and print the report."""
     given, path = read_input(arguments.file[0]), arguments.store
     made(given, check)  # before a store is made
-    new = _made_by(path)
+    new = _made_by(path, arguments.create)
     try:
         with Progress(path, not arguments.interactive):
-            with open_store(path, timeout=PATIENCE) as store:
+            # A store takes its time: a second Ctrl-C ends it.
+            with open_store(path, timeout=None) as store:
                 report = _applied(store, given.data, arguments)
-    except (ChangesetError, StoreError, ProgramError) as error:
+    except (ProgramError, StoreError, ValueError) as error:
         raise _failure(given, path, error) from None
     except MemoryError:
         raise Failure(path, "memory ran out", Code.NO_MEMORY) from None

@@ -2,7 +2,7 @@
 import sys
 from typing import Mapping, Optional
 
-from .._errors import ChangesetError, Code, ConflictError, StoreError
+from .._errors import ChangesetError, Code, ConflictError, StoreError, StoreFault
 from .._explain import explain
 from ._texts import escaped_lines, literals, printable, title
 
@@ -76,17 +76,19 @@ def of_system(error: OSError) -> Failure:
     return Failure(str(error.filename), str(error.strerror))
 
 
+def quoted(table: str) -> str:
+    """Return the name of a table as the program prints it, on one line."""
+    return "'" + printable(table).replace("'", "''") + "'"
+
+
 def of_conflict(name: str, error: ConflictError) -> Failure:
     """Return the failure of an apply that ended at a conflict."""
     words = CONFLICTS.get(error.kind, error.kind)
-    if error.code == Code.MISUSE:
-        words += ", and cannot be replaced. Choose omit or abort"
-    key = "" if error.key is None else f"key {literals(error.key)}: "
-    why = f"{key}{words}. Nothing is changed."
-    return Failure(name, why, error.code, printable(error.detail))
+    why = f"key {literals(error.key or ())}: {words}. Nothing is changed."
+    return Failure(name, why, error.code, f"{error.kind} {quoted(error.table or '')}")
 
 
 def of_store(name: str, error: StoreError) -> Failure:
     """Return the failure of a store."""
-    why = error.why or SENTENCES.get(error.code, "the store refuses it.")
-    return Failure(name, why, error.code, error.detail)
+    why = error.why if isinstance(error, StoreFault) else SENTENCES.get(error.code, str(error))
+    return Failure(name, why, error.code, str(error.detail) if error.code == Code.WIDER else "")

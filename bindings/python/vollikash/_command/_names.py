@@ -4,12 +4,13 @@ import os
 import pathlib
 from typing import TYPE_CHECKING, Dict, Iterator, Optional, Sequence, Tuple
 
-from .._deciding import is_start
+from .._errors import DamagedStore, ProgramError, StoreError
 from .._exchange import read_schema
 from .._json import numbered
-from .._schema import Schema, is_unfinished, read_schemas
+from .._schema import Schema
+from .._store import open as open_store
 from .._values import shown
-from ._messages import Failure, complain
+from ._messages import Failure, complain, of_store
 
 if TYPE_CHECKING:
     import sqlite3
@@ -38,16 +39,36 @@ def opened(path: str) -> "sqlite3.Connection":
     return base
 
 
+def has_records(path: str) -> bool:
+    """Return whether a database has a table `rec`, as a store does. Raise `Failure`."""
+    with _reading(path), contextlib.closing(opened(path)) as base:
+        return bool(base.execute("SELECT 1 FROM sqlite_master WHERE name = 'rec'").fetchall())
+
+
+def _stored(path: str) -> Dict[str, Schema]:
+    """Return the tables of a store, or none if the database is another one. Raise `Failure`."""
+    if not has_records(path):
+        return {}
+    try:
+        with open_store(path) as store:
+            return {name: store.schema(name) for name in store.tables()}
+    except DamagedStore:
+        return {}
+    except StoreError as error:
+        raise of_store(path, error) from None
+    except (ProgramError, ValueError) as error:
+        raise Failure(path, str(error)) from None
+
+
 class Names:
     """The names of columns by the schema of a database, or c1, c2 and so on without one."""
 
     def __init__(self, path: Optional[str]) -> None:
         self._path = path
         self._known: Dict[Tuple[str, bytes], Sequence[str]] = {}
+        # A store has its declarations elsewhere than an ordinary database, and is open alone.
+        self._stored = {} if path is None else _stored(path)
         self._base = None if path is None else opened(path)
-        # A store has its declarations elsewhere than an ordinary database.
-        is_read = path is not None and not is_unfinished(path)
-        self._stored = read_schemas(path) if path is not None and is_read else {}
 
     def of(self, table: str, flags: bytes) -> Sequence[str]:
         """Return the names of the columns of a table with these flags."""
@@ -62,7 +83,7 @@ class Names:
         if self._path is None:
             return names
         for schema in (self._ordinary(table), self._stored.get(table)):
-            if schema is not None and is_start(schema, flags):
+            if schema is not None and schema.begins_with(flags):
                 return schema.columns[:len(flags)]
         why = f"no table {shown(table)} has the columns and the key that the changeset has"
         complain(Failure(self._path, f"{why}: its columns are shown as c1 to {names[-1]}"))

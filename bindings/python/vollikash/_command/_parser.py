@@ -4,7 +4,7 @@ import os
 from typing import Callable, Optional, Sequence
 
 from .. import __version__
-from .._lines import CHOICES
+from .._conflicts import CHOICES
 from . import _applying, _counts, _making, _page, _shell, _show
 
 _USE = """
@@ -12,14 +12,17 @@ FILE is a changeset, and - is standard input or output.
 `vollikash COMMAND --help` has the options of a command, and an example.
 """
 
+# The choices for a row that cannot be replaced.
+_UNREPLACED = [choice for choice in CHOICES if choice != "replace"]
+
 _Run = Callable[[argparse.Namespace], int]
 
-# The options of `apply`, each with the conflict that it decides.
+# The options of `apply`, each with its choices and the conflict that it decides.
 _CONFLICTS = {
-    "data": "a row that differs from the old one of an UPDATE or a DELETE",
-    "notfound": "a row of an UPDATE or a DELETE that does not exist",
-    "conflict": "a row of an INSERT that exists",
-    "constraint": "a new row with NULL in a column that refuses it",
+    "data": (CHOICES, "a row that differs from the old one of an UPDATE or a DELETE"),
+    "notfound": (_UNREPLACED, "a row of an UPDATE or a DELETE that does not exist"),
+    "conflict": (CHOICES, "a row of an INSERT that exists"),
+    "constraint": (_UNREPLACED, "a new row with NULL in a column that refuses it"),
 }
 
 
@@ -129,11 +132,13 @@ def _add_stores(words: _Words) -> None:
         "apply", "apply a changeset to a store", _applying.apply, "apply edit.cs notes.db"
     )
     _add_file(apply)
-    apply.add_argument("store", metavar="STORE", help="the file of a store, made if there is none")
-    for kind, which in _CONFLICTS.items():
+    apply.add_argument("store", metavar="STORE", help="the file of a store")
+    for kind, (choices, which) in _CONFLICTS.items():
+        listed = f"{', '.join(choices[:-1])} or abort (default)"
         apply.add_argument(
-            f"--{kind}", choices=CHOICES, metavar="C", help=f"omit, replace or abort (default): {which}"
+            f"--{kind}", choices=choices, metavar="C", help=f"{listed}: {which}"
         )
+    apply.add_argument("--create", action="store_true", help="make the store if there is none")
     apply.add_argument(
         "--ignore-noop", action="store_true", help="ignore changes that would change nothing"
     )

@@ -5,10 +5,8 @@ import os
 import sys
 from typing import Callable, Dict, Iterable, Iterator, List
 
-from .._asking import KEPT, REFUSED, Asker
 from .._errors import Code, ProgramError, StoreError
-from .._process import LONGEST_FILE
-from ._applying import PATIENCE
+from ._lines import LONGEST_FILE, REFUSED, LineProgram
 from ._messages import SENTENCES, Failure, of_store
 from ._progress import Progress
 from ._streams import read_input, text_output, write_pieces
@@ -25,7 +23,6 @@ INSERT INTO t VALUES(1, 'x');                    inserts a row
 UPDATE t SET b='y' WHERE a=1;                    sets columns of the row with this key
 DELETE FROM t WHERE a=1;                         deletes the row with this key
 SELECT * FROM t;                                 prints all rows
-.line HEX                                        does what the line of these bytes does
 
 .import FILE SLOT           puts the bytes of a file into a slot
 .write SLOT FILE            writes the bytes of a slot into a file
@@ -51,28 +48,11 @@ SELECT * FROM t;                                 prints all rows
 """
 
 
-class _Store(Asker):
-    """A store whose program gets lines as they are."""
-
-    # No line of a person names this slot.
-    _slot = f"vollikash{os.urandom(8).hex()}"
-
-    def answer(self, line: str) -> str:
-        """Return what the program prints for a line."""
-        if not self._process.fits([line], KEPT):
-            return f"error {Code.SCRIPT_TOO_LONG:d} {Code.SCRIPT_TOO_LONG.title}\n"
-        return self._process.ask(line)
-
-    def close(self) -> None:
-        """End the program."""
-        self._process.close()
-
-
 class _Shell:
     """Runs lines on a store, and prints what they answer."""
 
-    def __init__(self, store: _Store, path: str) -> None:
-        self._store, self._path = store, path
+    def __init__(self, program: LineProgram, path: str) -> None:
+        self._program, self._path = program, path
         self._is_seen = is_terminal(sys.stdout)
         self._depth = 0
         self.has_failed = False
@@ -110,7 +90,7 @@ class _Shell:
     def _asked(self, line: str) -> str:
         """Return what the program prints for a line."""
         with Progress(self._path, self._is_seen):
-            return self._store.answer(line)
+            return self._program.answer(line)
 
     def _print(self, answer: str) -> None:
         """Print an answer. On a terminal an error has its reason."""
@@ -219,8 +199,8 @@ def shell(arguments: argparse.Namespace) -> int:
     """Run lines on a store. The status is 1 if a line of a script has failed."""
     path = arguments.store
     try:
-        with contextlib.closing(_Store(path, PATIENCE)) as store:
-            running = _Shell(store, path)
+        with contextlib.closing(LineProgram(path)) as program:
+            running = _Shell(program, path)
             if is_terminal(sys.stdin) and is_terminal(sys.stdout):
                 _typed(running)
                 return 0
@@ -229,5 +209,5 @@ def shell(arguments: argparse.Namespace) -> int:
             return 1 if running.has_failed else 0
     except StoreError as error:
         raise of_store(path, error) from None
-    except ProgramError as error:
+    except (ProgramError, ValueError) as error:
         raise Failure(path, str(error)) from None
