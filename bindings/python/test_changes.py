@@ -815,9 +815,9 @@ class Errors(unittest.TestCase):
     def test_base(self):
         for error, other in (
             (ChangesetError(Code.SCHEMA, 2, 0), ValueError), (JsonError("why", 1, 2), ValueError),
-            (vollikash.StoreError(31, "NoTable"), Exception),
+            (vollikash.NoTable(Code.NO_TABLE, "t"), vollikash.StoreError),
             (vollikash.ProgramError("why"), OSError),
-            (vollikash.ConflictError(41, "Abort", "data 't'"), vollikash.StoreError),
+            (vollikash.ConflictError(Code.ABORT, "t", None, (1,), 1), vollikash.StoreError),
         ):
             with self.subTest(error=error):
                 self.assertIsInstance(error, vollikash.Error)
@@ -825,7 +825,6 @@ class Errors(unittest.TestCase):
                 copied = pickle.loads(pickle.dumps(error))
                 self.assertEqual((type(copied), str(copied)), (type(error), str(error)))
                 self.assertEqual(vars(copied), vars(error))
-        self.assertIs(vollikash.StoreError(31, "NoTable").code, Code.NO_TABLE)
 
     def test_exports(self):
         for name in vollikash.__all__:
