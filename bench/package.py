@@ -136,7 +136,7 @@ def sqlite_get(path: pathlib.Path, count: int) -> None:
     """Read each row of a database by its key."""
     with database(path) as base:
         for key in range(count):
-            base.execute("SELECT * FROM t WHERE a = ?", (key,)).fetchone()
+            base.execute("SELECT * FROM t WHERE c0 = ?", (key,)).fetchone()
 
 
 WORKS: dict[tuple[str, str], Callable[[pathlib.Path, int], None]] = {
