@@ -11,6 +11,7 @@ import math
 import os
 import pathlib
 import pickle
+import random
 import signal
 import sqlite3
 import subprocess
@@ -1009,6 +1010,24 @@ class Programs(Folder):
         """)
         self.expect_ended(int(printed))
 
+    def test_files_that_are_opened_later(self):
+        """No call of a store that nobody closed is written into one, at the end of the process."""
+        self.run_python("""
+            import atexit, os, vollikash
+            def late():
+                files = [open(f"late{number}", "wb", buffering=0) for number in range(8)]
+                try:
+                    store.put("t", 77)
+                except vollikash.ProgramError as error:
+                    assert str(error) == "the store is closed", error
+                else:
+                    raise AssertionError("the store is open")
+                os._exit(any(os.fstat(file.fileno()).st_size for file in files))
+            atexit.register(late)
+            store = vollikash.open(":memory:")
+            store.create("t", ["a"], key=["a"])
+        """, cwd=self.folder)
+
     def test_calls_of_a_closed_store(self):
         store = store_with_table()
         rows, session = store.rows("t"), store.session("t")
@@ -1079,14 +1098,14 @@ class Interrupts(Folder):
             store.tables()
 
     def test_transactions(self):
-        """An interrupted call of a block is carried out, and the block is rolled back. An
-        interrupted commit says whether it is done.
+        """If a call of a block is interrupted, the block is rolled back. An interrupted commit says
+        whether it is done.
         """
         self.slow(1, 7, 12)
         with store_with_table() as store:
             with self.assertRaises(Interrupted) as caught, store.transaction(), self.pressing(0.3):
                 store.insert("t", 1, "x")
-            self.assertTrue(caught.exception.is_done)
+            self.assertIs(caught.exception.is_done, False)
             self.assertEqual(list(store.rows("t")), [])
             with store.transaction():
                 with self.assertRaises(Interrupted) as caught, self.pressing(0.3):
@@ -1133,6 +1152,90 @@ class Interrupts(Folder):
             with self.assertRaisesRegex(TimeoutError, "late"):
                 store.insert("t", 1, "x")
             self.assertEqual(list(store.rows("t")), [(1, "x")])
+
+    @contextlib.contextmanager
+    def alarm(self, seconds):
+        """Has the handler of a signal raise TimeoutError after some time, if the block still runs."""
+
+        def late(*_):
+            raise TimeoutError
+
+        before = signal.signal(signal.SIGALRM, late)
+        signal.setitimer(signal.ITIMER_REAL, seconds)
+        try:
+            yield
+        finally:
+            signal.setitimer(signal.ITIMER_REAL, 0)
+            signal.signal(signal.SIGALRM, before)
+
+    def moments(self, path, count, longest, call):
+        """Makes a call for each of some numbers, with an exception of a signal at any moment. Yields
+        the number and an open store.
+        """
+        chance, store = random.Random(1), store_with_table(path)
+        for number in range(count):
+            with contextlib.suppress(ProgramError, TimeoutError, ValueError):
+                with self.alarm(chance.random() * longest):
+                    call(store, number)
+            if store._process.is_open:
+                with contextlib.suppress(ProgramError):
+                    store.tables()
+            if not store._process.is_open:
+                store = vollikash.open(path)
+            yield number, store
+        store.close()
+
+    def test_calls_at_any_moment(self):
+        """A call is done or not, and an answer is its own."""
+
+        def row(number):
+            return bytes([number % 251]) * 200_000
+
+        held = None
+        for number, store in self.moments(
+            self.folder / "calls", 150, 0.003, lambda store, number: store.put("t", 1, row(number))
+        ):
+            found = store.get("t", 1)
+            self.assertIn(found, (held, (1, row(number))))
+            held = found
+
+    def test_blocks_at_any_moment(self):
+        """A block that has failed leaves nothing, and no transaction is open after it."""
+
+        def fail(store, number):
+            with store.transaction():
+                store.insert("t", number, "x")
+                raise ValueError
+
+        for _, store in self.moments(self.folder / "blocks", 300, 0.001, fail):
+            with store.transaction():
+                self.assertEqual(store.count("t"), 0)
+
+    def test_sessions_at_any_moment(self):
+        """A session is closed after its block."""
+
+        def record(store, number):
+            with store.session("t"):
+                store.put("t", 1, number)
+
+        for _, store in self.moments(self.folder / "sessions", 300, 0.001, record):
+            with store.session("t") as session:
+                self.assertTrue(session.is_empty())
+
+    def test_undo(self):
+        """The stack has what the rows have, also if the call was interrupted."""
+        self.slow(1, 14, 17)
+        with store_with_table() as store:
+            stack = store.undo_stack("t")
+            with stack.action("fill"):
+                store.insert("t", 1, "x")
+            for call, rows, done in ((stack.undo, [], []), (stack.redo, [(1, "x")], ["fill"])):
+                with self.assertRaises(Interrupted) as caught, self.pressing(0.3):
+                    call()
+                self.assertTrue(caught.exception.is_done)
+                self.assertEqual((list(store.rows("t")), stack.done), (rows, done))
+            with self.assertRaises(RuntimeError), store.transaction():
+                stack.undo()
 
     def test_handlers(self):
         """One that returns changes nothing. One that calls the store gets an error."""

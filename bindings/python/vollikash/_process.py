@@ -12,10 +12,12 @@ import select
 import shutil
 import struct
 import subprocess
+import sys
 import threading
+import time
 import weakref
 from types import TracebackType
-from typing import Iterator, List, Optional, Sequence, Tuple, Type, Union
+from typing import List, Optional, Sequence, Tuple, Type, Union
 
 from ._calls import DONE, HEADER, is_refused
 from ._errors import Interrupted, ProgramError
@@ -28,6 +30,12 @@ _PATIENCE = 1.0
 
 # The most milliseconds that `poll` waits.
 _LONGEST = 0x7FFFFFFF
+
+# How many seconds pass between two looks whether a program has ended.
+_PAUSE = 0.01
+
+# How many bytes of calls are sent at once before their answers are read.
+_AHEAD = 1 << 14
 
 # How many milliseconds calls wait to be written before answers are read.
 _MOMENT = 5
@@ -65,6 +73,8 @@ def start(words: Sequence[Union[str, bytes]]) -> "subprocess.Popen[bytes]":
             start_new_session=True,
         )
     except OSError as error:
+        if error.errno is None:  # the handler of a signal has raised it
+            raise
         raise ProgramError(f"{os.fsdecode(words[0])} does not run: {error.strerror}") from error
 
 
@@ -75,8 +85,12 @@ def _close_pipes(process: "subprocess.Popen[bytes]") -> None:
             stream.close()
 
 
-def end(process: "subprocess.Popen[bytes]") -> None:
-    """End a program, whatever it does."""
+def end(process: "subprocess.Popen[bytes]", *pipes: List[int]) -> None:
+    """End a program, whatever it does. Empty the lists of its pipes, whose numbers may be those of
+    other files then.
+    """
+    for numbers in pipes:
+        numbers.clear()
     _close_pipes(process)
     try:
         process.wait(_PATIENCE)
@@ -112,10 +126,12 @@ class Process:
         self._timeout = timeout
         self._wait = None if timeout is None else math.ceil(min(timeout * 1000, _LONGEST))
         self._process = start([find_program(), path])
-        self._ends = weakref.finalize(self, end, self._process)
-        _OPEN.add(self)
         streams = self._process.stdin, self._process.stdout, self._process.stderr
         self._stdin, self._stdout, self._stderr = (it.fileno() for it in streams if it is not None)
+        # The arguments of calls that write and read.
+        self._to, self._from, self._most = [self._stdin], [self._stdout], (_MOST,)
+        self._ends = weakref.finalize(self, end, self._process, self._to, self._from)
+        _OPEN.add(self)
         for number in (self._stdin, self._stdout, self._stderr):
             os.set_blocking(number, False)
         poll = select.poll()
@@ -124,8 +140,6 @@ class Process:
         self._heard, self._poll, self._readable = poll, poll.poll, [(self._stdout, select.POLLIN)]
         self._room = select.poll()
         self._room.register(self._stdin, select.POLLOUT)
-        # The arguments of calls that write and read.
-        self._to, self._from, self._most = (self._stdin,), (self._stdout,), (_MOST,)
         self._said = b""
         self._is_heard = self._is_open = self._is_free = True
         self._closed = "the store is closed"
@@ -142,10 +156,24 @@ class Process:
             raise ProgramError(self._closed)
 
     def _expect_free(self) -> None:
-        """Raise an error if the program cannot be asked."""
+        """Raise an error if the program cannot be asked.
+
+        If the exception of a signal has ended a call before its answer, end the program, since the
+        next answer would be that of another call.
+        """
         self.expect_open()
-        if not self._is_free:
-            raise RuntimeError("another call of the store waits for its answer")
+        if self._is_free:
+            return
+        # What makes the call is the second frame.
+        frame = sys._getframe(2)
+        while frame is not None:
+            if frame.f_code in _EXCHANGING and frame.f_locals.get("self") in (self, self._ahead):
+                raise RuntimeError("another call of the store waits for its answer")
+            frame = frame.f_back  # type: ignore[assignment]
+        # What has sent calls ahead goes on where it was interrupted.
+        if self._ahead is None:
+            self.end()
+            raise ProgramError("a signal has ended a call before its answer: the store is closed")
 
     def ask(self, frame: bytes) -> bytes:
         """Return the answer to a call, both with their frames.
@@ -155,29 +183,35 @@ class Process:
         """
         if not self._is_free:
             self._expect_free()
+        if self._ahead is not None:
+            self._ahead.settle()
         sent: List[int] = []
         got: List[bytes] = []
         error: Optional[BaseException] = None
         try:
-            try:
-                self._is_free = False
-                if self._ahead is not None:
-                    self._ahead.settle()
-                sent.extend(map(_write, self._to, (frame,)))
-                # A short answer is written at once.
-                if sent[0] == len(frame) and self._poll(self._wait) == self._readable:
+            # It is free again after the answer, and not if another exception ends this before.
+            self._is_free = False
+            sent.extend(map(_write, self._to, (frame,)))
+            if sent and sent[0] == len(frame):
+                ready = self._poll(self._wait)
+                if ready == self._readable:
                     got.extend(map(_read, self._from, self._most))
                     answer = got[0]
                     size = len(answer) - HEADER
+                    # A short answer is written at once.
                     if size >= 0 and size == _size_at(answer)[0]:
+                        self._is_free = True
                         return answer
-            except (BlockingIOError, BrokenPipeError):
-                pass
-            except BaseException as caught:
-                error = caught
-            return self._finish(frame, sent, got, error)
-        finally:
-            self._is_free = self._is_open
+                elif not ready:
+                    raise self._silent()
+        except (BlockingIOError, BrokenPipeError):
+            pass
+        except ProgramError:
+            self.end()
+            raise
+        except BaseException as caught:
+            error = caught
+        return self._finish(frame, sent, got, error)
 
     def _finish(
         self, frame: bytes, sent: List[int], got: List[bytes], error: Optional[BaseException]
@@ -187,9 +221,11 @@ class Process:
         """
         while True:
             if error is not None and not sent:
+                self._is_free = self._is_open
                 raise _interruption(error, False)
             try:
                 answer = self._rest(frame, sent, got)
+                self._is_free = True
                 break
             except BaseException as again:
                 first, error = error, again
@@ -207,15 +243,14 @@ class Process:
         while True:
             if held >= HEADER and not whole:
                 whole = HEADER + int(_size_at(b"".join(got[:HEADER]))[0])
-            if whole and held >= whole and not unsent:
-                break
+            if whole and held > whole:
+                raise ProgramError("the program answered more than one call")
+            if whole and held == whole and not unsent:
+                return b"".join(got)
             writes, reads = len(sent), len(got)
             self.turn(unsent, sent, got)
             unsent = unsent[sum(sent[writes:]):]
             held += sum(map(len, got[reads:]))
-        if held > whole:
-            raise ProgramError("the program answered more than one call")
-        return b"".join(got)
 
     def turn(
         self, unsent: Union[bytes, memoryview], sent: List[int], got: List[bytes]
@@ -235,8 +270,7 @@ class Process:
             poll.register(self._stdin, select.POLLOUT)
         ready = [number for number, _ in poll.poll(self._wait)]
         if not ready:
-            why = f"the program has not answered in {self._timeout} seconds"
-            raise ProgramError(why, self._text())
+            raise self._silent()
         if self._stderr in ready:
             self._hear()
         if self._stdout in ready:
@@ -257,6 +291,8 @@ class Process:
         Each answer ends a wait of `turn`, but not this one.
         """
         for wait in (_MOMENT, 0):
+            if not self._to:
+                raise ProgramError(self._closed)
             try:
                 sent.extend(map(_write, self._to, (unsent,)))
                 return True
@@ -268,6 +304,8 @@ class Process:
 
     def pull(self, got: List[bytes]) -> None:
         """Read what can be read at once."""
+        if not self._from:
+            raise ProgramError(self._closed)
         try:
             got.extend(map(_read, self._from, self._most))
         except BlockingIOError:
@@ -275,40 +313,50 @@ class Process:
         if not got[-1]:
             raise self._ended()
 
-    def _hear(self) -> None:
-        """Read what the program says on standard error, and keep the end of it."""
+    def _hear(self) -> bool:
+        """Read what the program says on standard error, and keep the end of it. Return whether it
+        has said something.
+        """
         try:
             said = _read(self._stderr, _MOST)
         except BlockingIOError:
-            return
+            return False
         self._said = (self._said + said)[-_SAID:]
         if not said:
             self._is_heard = False
             self._heard.unregister(self._stderr)
+        return bool(said)
 
     def _text(self) -> str:
         """Return what the program has said last."""
         return self._said.decode(errors="replace")
 
+    def _silent(self) -> ProgramError:
+        """Return the error that the program has not answered in time."""
+        return ProgramError(f"the program has not answered in {self._timeout} seconds", self._text())
+
     def _ended(self) -> ProgramError:
         """Return the error that the program has ended, with what it said."""
-        try:
-            status = self._process.wait(self._timeout)
-        except subprocess.TimeoutExpired:
+        deadline = time.monotonic() + _PATIENCE
+        while self._process.poll() is None and time.monotonic() < deadline:
+            if self._is_heard:
+                self._hear()
+            time.sleep(_PAUSE)
+        while self._is_heard and self._hear():
+            pass
+        status = self._process.returncode
+        if status is None:
             return ProgramError("the program reads and writes no more", self._text())
-        if self._is_heard:
-            self._hear()
         why = self._text().strip() or f"exit status {status}"
         return ProgramError(f"the program has ended: {why}", self._text())
 
-    @contextlib.contextmanager
-    def occupied(self) -> Iterator[None]:
-        """In the block, a handler of a signal cannot make a call."""
-        before, self._is_free = self._is_free, False
-        try:
-            yield
-        finally:
-            self._is_free = before and self._is_open
+    def occupy(self) -> None:
+        """Let nobody make a call until `release`."""
+        self._is_free = False
+
+    def release(self) -> None:
+        """Let calls be made again: each is answered that was sent."""
+        self._is_free = self._is_open
 
     def ahead(self) -> "Ahead":
         """Return what sends calls before the answers to others are read, in a `with` block. After
@@ -355,6 +403,8 @@ class Process:
         """Leave the program to the process that has forked this one."""
         self.lock = threading.RLock()
         if self._ends.detach() is not None:
+            self._to.clear()
+            self._from.clear()
             _close_pipes(self._process)
             # So that nobody waits for the end of what is no child of this process.
             self._process.returncode = 0
@@ -371,8 +421,10 @@ class Ahead:
     def __init__(self, process: Process) -> None:
         self._process = process
         self._before: Optional[Ahead] = None
-        # What was sent last, how many bytes of it are written, and the number of calls.
-        self._sent: Tuple[bytes, List[int], int] = (b"", [], 0)
+        # What was sent last, how many bytes of it are written, the number of calls that were sent,
+        # and those that are to be sent, of about so many bytes.
+        self._sent: Tuple[bytes, List[int], int, List[bytes]] = (b"", [], 0, [])
+        self._size = 0
         # What was read, the number of answers before that, and the answers other than DONE, each
         # with the number of its call from 0.
         self._got: Tuple[List[bytes], int, List[Tuple[int, bytes]]] = ([], 0, [])
@@ -387,24 +439,42 @@ class Ahead:
         error: Optional[BaseException],
         trace: Optional[TracebackType],
     ) -> None:
-        self._process.end_ahead(self._before)
         if isinstance(error, ProgramError):
             self._process.end()
-            return
-        try:
-            self.settle()
-        except BaseException:
-            self._process.end()
-            raise
+        interrupted: Optional[BaseException] = None
+        while True:
+            try:
+                self.settle()
+                break
+            except BaseException as caught:
+                if interrupted is not None or isinstance(caught, ProgramError):
+                    self._process.end()
+                    raise
+                interrupted = caught
+        self._process.end_ahead(self._before)
+        if interrupted is not None:
+            raise interrupted
 
-    def send(self, frames: bytes, count: int) -> None:
-        """Send some calls."""
-        self._process.expect_open()
-        with self._process.occupied():
-            self._sent = frames, [], self._sent[2] + count
-            self._write()
+    def add(self, frame: bytes) -> None:
+        """Send a call, together with others."""
+        self._sent[3].append(frame)
+        self._size += len(frame)
+        if self._size >= _AHEAD:
+            self._process.expect_open()
+            self._process.occupy()
+            self._send()
             self._process.pull(self._got[0])
             self._note()
+            self._process.release()
+
+    def _send(self) -> None:
+        """Send the calls that are to be sent."""
+        self._write()
+        _, _, count, calls = self._sent
+        if calls:
+            self._sent = b"".join(calls), [], count + len(calls), []
+            self._size = 0
+            self._write()
 
     def others(self) -> List[Tuple[int, bytes]]:
         """Return the answers that are not DONE, as far as they are read, each with the number of
@@ -420,20 +490,22 @@ class Ahead:
     def settle(self) -> None:
         """Wait for the answer to each call."""
         if self._process.is_open:
-            with self._process.occupied():
-                self._write()
-                while self._note() < self._sent[2]:
-                    self._process.turn(b"", [], self._got[0])
+            self._process.occupy()
+            self._send()
+            while self._note() < self._sent[2]:
+                self._process.turn(b"", [], self._got[0])
+            self._process.release()
 
     def _write(self) -> None:
         """Write what is sent, and read answers meanwhile."""
-        frames, written, _ = self._sent
+        frames, written, _, _ = self._sent
         while True:
             unsent = memoryview(frames)[sum(written):]
             if not unsent:
                 break
             if not self._process.push(unsent, written):
                 self._process.turn(unsent, written, self._got[0])
+                self._note()
 
     def _note(self) -> int:
         """Note the answers that are read whole, and return the number of answers."""
@@ -454,6 +526,10 @@ class Ahead:
             raise ProgramError("the program answered more than was asked")
         self._got = [data[at:]], last, others
         return last
+
+
+# What writes and reads: a handler of a signal that makes a call runs above one of these.
+_EXCHANGING = {it.__code__ for it in (Process.ask, Process._finish, Ahead.add, Ahead.settle)}
 
 
 def _leave_all() -> None:

@@ -1,6 +1,7 @@
 """Sessions, which record the changes of a store."""
 import contextlib
 import threading
+import weakref
 from types import TracebackType
 from typing import TYPE_CHECKING, Callable, NoReturn, Optional, Sequence, Type, TypeVar
 
@@ -29,17 +30,17 @@ class Session:
         self._thread = threading.get_ident()
         self._is_open = True
         attached = [_calls.attach(table) for table in tables]
+        store._close_lost_session()
+        is_first = store._session is None
         try:
             store._tell(_calls.OPEN_SESSION)
-        except Interrupted as error:
-            if error.is_done:
-                self._forget()
-            raise
-        try:
+            store._session = weakref.ref(self)
             for frame in attached:
                 store._tell(frame)
         except BaseException:
-            self._forget()
+            # The exception of a signal can come after the answer.
+            if is_first:
+                self._forget()
             raise
 
     def __enter__(self) -> "Session":
@@ -100,6 +101,20 @@ class Session:
     def close(self) -> None:
         """Close the session, and change no row."""
         self._expect_own()
-        if self._is_open:
-            self._ask(_calls.CLOSE_SESSION, _calls.read_done)
-            self._is_open = False
+        if not self._is_open:
+            return
+        self._is_open = False
+        store = self._store
+        try:
+            store._tell(_calls.CLOSE_SESSION)
+        except (StoreError, RuntimeError):
+            self._is_open = True
+            raise
+        except Interrupted as error:
+            self._is_open = error.is_done is False
+            raise
+        except BaseException:
+            # It may be open, and nobody has it then.
+            store._session = lambda: None
+            raise
+        store._session = None

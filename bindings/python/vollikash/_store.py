@@ -5,18 +5,19 @@ import os
 import sys
 import time
 import warnings
+import weakref
 from types import TracebackType
 from typing import (
-    TYPE_CHECKING, Callable, Collection, Dict, Iterable, Iterator, List, Mapping, NamedTuple,
-    NoReturn, Optional, Sequence, Tuple, Type, TypeVar, Union,
+    TYPE_CHECKING, Callable, Collection, ContextManager, Dict, Iterable, Iterator, List, Mapping,
+    NamedTuple, NoReturn, Optional, Sequence, Tuple, Type, TypeVar, Union,
 )
 
 from . import _calls, _exchange
 from ._causes import explain_opening
 from ._conflicts import CHOICES, Choice, Handler, Report, decided
 from ._errors import (
-    Busy, Code, Interrupted, Kind, NoRow, NoTransaction, ProgramError, StoreError, StoreFault,
-    TableExists, TransactionEnded, UnknownColumn,
+    Busy, Code, FrameTooLong, Interrupted, Kind, NoRow, NoSession, NoTransaction, ProgramError,
+    StoreError, StoreFault, TableExists, TransactionEnded, UnknownColumn,
 )
 from ._files import Bytes, as_bytes
 from ._process import Ahead, Process
@@ -33,8 +34,8 @@ Path = Union[str, bytes, "os.PathLike[str]", "os.PathLike[bytes]"]
 # The path of a store in memory.
 _MEMORY = b":memory:"
 
-# How many rows are read by one call, and how many bytes of calls are sent at once.
-_PAGE, _SENT = 512, 1 << 14
+# How many rows are read by one call.
+_PAGE = 512
 
 # The shortest and the longest pause before a file that is in use is tried again, in seconds.
 _PAUSE, _LONGEST_PAUSE = 0.01, 0.25
@@ -97,13 +98,16 @@ def _declared(columns: Iterable[str], key: Iterable[str], refuses: Iterable[str]
 def _insertions(table: str, rows: Iterable[Sequence[Value]]) -> Iterator[bytes]:
     """Yield the call that inserts each row. Raise ValueError for one that is none."""
     for number, row in enumerate(rows, 1):
-        if type(row) is not tuple and isinstance(row, (str, bytes, Mapping)):
-            kind = type(row).__name__
-            raise ValueError(f"row {number}: a row has its values in order, and is no {kind}")
         try:
-            yield _calls.row_call(_calls.INSERT, table, row)
+            if type(row) is not tuple and isinstance(row, (str, bytes, Mapping)):
+                raise TypeError
+            frame = _calls.row_call(_calls.INSERT, table, row)
+        except TypeError:
+            why = f"a row has its values in order, and is no {type(row).__name__}"
+            raise ValueError(f"row {number}: {why}") from None
         except ValueError as error:
             raise ValueError(f"row {number}: {error}") from None
+        yield frame
 
 
 def _kept(frames: Iterator[bytes], kept: List[bytes]) -> Iterator[bytes]:
@@ -113,25 +117,12 @@ def _kept(frames: Iterator[bytes], kept: List[bytes]) -> Iterator[bytes]:
         yield frame
 
 
-def _unfinished(error: Interrupted) -> Interrupted:
-    """Return what is raised if a call was interrupted before its last part."""
-    return Interrupted(None if error.is_done is None else False)
-
-
 def _send(ahead: Ahead, frames: Iterator[bytes]) -> None:
     """Send calls until one is refused, and wait for their answers."""
-    batch: List[bytes] = []
-    size = 0
     for frame in frames:
-        batch.append(frame)
-        size += len(frame)
-        if size >= _SENT:
-            ahead.send(b"".join(batch), len(batch))
-            if ahead.others():
-                break
-            batch, size = [], 0
-    else:
-        ahead.send(b"".join(batch), len(batch))
+        ahead.add(frame)
+        if ahead.others():
+            break
     ahead.settle()
 
 
@@ -145,6 +136,66 @@ def _task() -> Optional[object]:
     except RuntimeError:
         return None
     return task
+
+
+class _Block:
+    """A transaction of a `with` block. A generator's context could be left by a signal within."""
+
+    def __init__(self, store: "Store") -> None:
+        self._store = store
+
+    def __enter__(self) -> None:
+        self._store._begin(self)
+
+    def __exit__(
+        self,
+        kind: Optional[Type[BaseException]],
+        error: Optional[BaseException],
+        trace: Optional[TracebackType],
+    ) -> None:
+        self._store._end(error is None)
+        if isinstance(error, Interrupted) and error.is_done:
+            error.is_done = False
+
+
+class _Part:
+    """What one call does in the open transaction, or in one of its own. `takes_back` says whether
+    it leaves nothing if it is interrupted in an open one.
+    """
+
+    def __init__(self, store: "Store", takes_back: bool) -> None:
+        self._store, self._takes_back = store, takes_back
+        self._own: Optional[_Block] = None
+
+    def __enter__(self) -> bool:
+        """Return whether the transaction is its own."""
+        store = self._store
+        store._process.lock.acquire()
+        try:
+            store._expect_allowed(False)
+            if not store._is_begun:
+                own = _Block(store)
+                store._begin(own)
+                self._own = own
+        except BaseException:
+            store._process.lock.release()
+            raise
+        return self._own is not None
+
+    def __exit__(
+        self,
+        kind: Optional[Type[BaseException]],
+        error: Optional[BaseException],
+        trace: Optional[TracebackType],
+    ) -> None:
+        try:
+            if self._own is not None:
+                self._own.__exit__(kind, error, trace)
+        finally:
+            self._store._process.lock.release()
+        is_undone = self._takes_back or self._own is not None
+        if is_undone and isinstance(error, KeyboardInterrupt):
+            raise self._store._unfinished(error) from error
 
 
 class Store:
@@ -164,12 +215,16 @@ class Store:
 
     def __init__(self, process: Process, path: str) -> None:
         self._process, self._path = process, path
-        # Whether a transaction is open, its task, and what it has read of tables.
-        self._is_begun = False
+        # Whether a transaction is open, or known to be over, its block, its task, and what it has
+        # read of tables.
+        self._is_begun = self._is_over = False
+        self._block: Callable[[], Optional[_Block]] = lambda: None
         self._owner: Optional[object] = None
         self._tables: Dict[str, _Table] = {}
-        # Whether a function decides conflicts.
-        self._is_deciding = False
+        # Whether a function or an iterator of the caller runs within a call.
+        self._is_reading = False
+        # What returns the session that is open, or None if nobody has it.
+        self._session: Optional[Callable[[], Optional[Session]]] = None
         # Whether a call has to be looked at before it is sent.
         self._is_watched = False
 
@@ -202,14 +257,24 @@ class Store:
         back. The calls of a closed store raise `ProgramError`, but for this one.
         """
         with self._process.lock:
+            if self._is_watched:
+                self._expect_allowed(False)
             self._process.close()
 
     def _expect_allowed(self, is_read: bool) -> None:
-        """Raise RuntimeError for a call that is not allowed at this time."""
+        """Raise RuntimeError for a call that is not allowed at this time.
+
+        If the exception of a signal has left the block of a transaction before its end, end the
+        program, and with it the transaction.
+        """
+        if self._is_begun and self._block() is None:
+            self._process.end()
+            self._forget()
+            raise ProgramError("a signal has left the block of a transaction: the store is closed")
         if self._owner is not None and self._owner is not _task():
             raise RuntimeError("another task has a transaction open")
-        if self._is_deciding and not is_read:
-            raise RuntimeError("a function that decides conflicts can only read the store")
+        if self._is_reading and not is_read:
+            raise RuntimeError("what a call runs, a function or an iterator, can only read the store")
 
     def _tell(self, frame: bytes) -> None:
         """Make a call that returns nothing."""
@@ -312,9 +377,16 @@ class Store:
     def _page(
         self, table: str, after: Optional[Sequence[Value]], limit: Optional[int]
     ) -> Tuple[List[Row], bool]:
-        """Return some rows of a table, and whether there are more."""
+        """Return some rows of a table, and whether there are more. There are fewer if they are long.
+        """
         size = _PAGE if limit is None else min(limit, _PAGE)
-        return self._ask(_calls.rows(table, after, size), _calls.read_rows, is_read=True)
+        while True:
+            try:
+                return self._ask(_calls.rows(table, after, size), _calls.read_rows, is_read=True)
+            except FrameTooLong:
+                if size <= 1:
+                    raise
+            size //= 2
 
     def _pages(
         self, table: str, first: Tuple[List[Row], bool], left: Optional[int]
@@ -348,10 +420,8 @@ class Store:
         If a row is refused, none of them is inserted. The error has the row's number, from 1, as
         `row`. An open transaction goes on without them.
         """
-        with self._process.lock:
-            is_own = not self._is_begun
-            with self._joined():
-                self._insert_rows(table, _insertions(table, rows), is_own)
+        with _Part(self, takes_back=True) as is_own:
+            self._insert_rows(table, _insertions(table, rows), is_own)
 
     def _insert_rows(self, table: str, frames: Iterator[bytes], is_own: bool) -> None:
         """Make the calls that insert rows in a transaction, which is rolled back after an error if
@@ -360,8 +430,12 @@ class Store:
         kept: List[bytes] = []
         ahead = self._process.ahead()
         try:
-            with ahead:
-                _send(ahead, frames if is_own else _kept(frames, kept))
+            try:
+                self._is_reading = self._is_watched = True
+                with ahead:
+                    _send(ahead, frames if is_own else _kept(frames, kept))
+            finally:
+                self._is_reading, self._is_watched = False, self._is_begun
             self._expect_done(ahead)
         except BaseException:
             if not is_own and self._process.is_open:
@@ -410,7 +484,7 @@ class Store:
                 key = known.key(named)
                 row = self._ask(_calls.key_call(_calls.GET, table, key), _calls.read_row)
             except Interrupted as error:
-                raise _unfinished(error) from error
+                raise self._unfinished(error) from error
             if row is None:
                 raise NoRow(Code.NO_ROW, table, None, tuple(where[it] for it in known.schema.key))
             pairs = zip(known.schema.columns, row)
@@ -424,75 +498,83 @@ class Store:
             try:
                 key = self._table(table).key(named)
             except Interrupted as error:
-                raise _unfinished(error) from error
+                raise self._unfinished(error) from error
             self._tell(_calls.key_call(_calls.DELETE, table, key))
 
-    @contextlib.contextmanager
-    def transaction(self) -> Iterator[None]:
-        """Carry out the calls of the `with` block in one transaction.
+    def transaction(self) -> ContextManager[None]:
+        """Return a context that carries out the calls of its `with` block in one transaction.
 
         Reads of the block see its writes. A refused call leaves the transaction open. If the block
         raises an exception, the transaction is rolled back. If the commit is refused, nothing is
         carried out. A block in the block raises RuntimeError. Sessions cannot be used in it: their
         calls raise `TransactionOpen`.
         """
-        with self._process.lock:
+        return _Block(self)
+
+    def _begin(self, block: _Block) -> None:
+        """Begin the transaction of a block, and hold the lock until it ends."""
+        self._process.lock.acquire()
+        try:
             self._expect_allowed(False)
             if self._is_begun:
                 raise RuntimeError("a transaction is open")
-            self._is_begun, self._owner = True, _task()
-            self._is_watched = self._owner is not None
-            try:
-                self._begin()
-                yield
-                self._tell(_calls.COMMIT)
-            except BaseException:
-                self._roll_back()
-                raise
-            finally:
-                self._is_begun, self._owner, self._is_watched = False, None, False
-                self._tables.clear()
-
-    def _begin(self) -> None:
-        """Begin a transaction."""
+        except BaseException:
+            self._process.lock.release()
+            raise
         try:
+            self._owner, self._block = _task(), weakref.ref(block)
+            self._is_begun = self._is_watched = True
             self._tell(_calls.BEGIN)
-        except Interrupted as error:
-            raise _unfinished(error) from error
+        except BaseException as error:
+            self._end(False)
+            if isinstance(error, KeyboardInterrupt):
+                raise self._unfinished(error) from error
+            raise
+
+    def _end(self, commits: bool) -> None:
+        """Commit the transaction, or roll it back. If it is not known to be over, end the program.
+        """
+        self._is_over = False
+        try:
+            if commits:
+                self._tell(_calls.COMMIT)
+                self._is_over = True
+        finally:
+            try:
+                if not self._is_over:
+                    self._roll_back()
+            finally:
+                if not self._is_over:
+                    self._process.end()
+                self._forget()
+
+    def _forget(self) -> None:
+        """Forget the transaction, which has ended."""
+        self._is_begun, self._owner, self._is_watched = False, None, False
+        self._tables.clear()
+        self._process.lock.release()
 
     def _roll_back(self) -> None:
-        """Roll back the transaction, if one is open, or end the program, which does so too."""
+        """Roll back the transaction, if one is open."""
         for _ in range(_TRIES):
             try:
                 _calls.read_done(self._process.ask(_calls.ROLL_BACK))
-                return
             except NoTransaction:
-                return
+                pass
             except MemoryError:
                 continue
             except (ProgramError, StoreError):
-                break
+                return
             except Interrupted as error:
-                if not error.is_done:
-                    self._process.end()
+                self._is_over = bool(error.is_done)
                 raise
-        self._process.end()
+            self._is_over = True
+            return
 
-    @contextlib.contextmanager
-    def _joined(self) -> Iterator[None]:
-        """Carry out the block in the open transaction, or in one of its own. A KeyboardInterrupt in
-        one of its own says that nothing is done.
-        """
-        with self._process.lock:
-            self._expect_allowed(False)
-            is_own = not self._is_begun
-            with self.transaction() if is_own else contextlib.nullcontext():
-                try:
-                    yield
-                except KeyboardInterrupt as error:
-                    if isinstance(error, Interrupted) and not is_own:
-                        raise
-                    raise Interrupted(False) from error
+    def _unfinished(self, error: KeyboardInterrupt) -> Interrupted:
+        """Return what is raised if a call was interrupted before its last part."""
+        is_known = self._process.is_open and getattr(error, "is_done", False) is not None
+        return Interrupted(False if is_known else None)
 
     def apply(
         self,
@@ -528,7 +610,7 @@ class Store:
                 raise ValueError(f"{kind} is chosen, and on_conflict too")
         given, ignores = as_bytes(file), bool(ignore_noop)
         if on_conflict is not None:
-            with self._joined():
+            with _Part(self, takes_back=False):
                 return self._apply_decided(given, on_conflict, ignores)
         frame = _calls.apply(given, ignores, choices.values())
         return self._ask(frame, _calls.read_report)
@@ -537,12 +619,12 @@ class Store:
         """Apply a changeset whose conflicts a function decides."""
         try:
             conflicts = self._ask(_calls.rehearse(file, ignores_noop), _calls.read_conflicts)
-            self._is_deciding = self._is_watched = True
+            self._is_reading = self._is_watched = True
             choices = decided(conflicts, file, handler)
         except Interrupted as error:
-            raise _unfinished(error) from error
+            raise self._unfinished(error) from error
         finally:
-            self._is_deciding, self._is_watched = False, self._owner is not None
+            self._is_reading, self._is_watched = False, self._is_begun
         frame = _calls.apply_chosen(file, ignores_noop, conflicts, choices)
         return self._ask(frame, _calls.read_report)
 
@@ -563,11 +645,9 @@ class Store:
         """
         schema = _exchange.read_schema(connection, table)
         rows = _exchange.read_rows(connection, table, schema.columns)
-        with self._process.lock:
-            is_own = not self._is_begun
-            with self._joined():
-                self.create(table, *schema, exist_ok=True)
-                self._insert_rows(table, _insertions(table, rows), is_own)
+        with _Part(self, takes_back=True) as is_own:
+            self.create(table, *schema, exist_ok=True)
+            self._insert_rows(table, _insertions(table, rows), is_own)
 
     def save_to(self, connection: "sqlite3.Connection", table: str) -> None:
         """Copy a table into an ordinary SQLite database, in one transaction.
@@ -578,8 +658,11 @@ class Store:
         nothing is copied.
         """
         with self._process.lock:
-            schema = self.schema(table)
-            _exchange.write_rows(connection, table, schema, self.rows(table))
+            try:
+                schema = self.schema(table)
+                _exchange.write_rows(connection, table, schema, self.rows(table))
+            except KeyboardInterrupt as error:
+                raise self._unfinished(error) from error
 
     def undo_stack(
         self,
@@ -594,6 +677,13 @@ class Store:
         raises ValueError. A table can be created later, but before the first action.
         """
         return UndoStack(self, tables, limit, path)
+
+    def _close_lost_session(self) -> None:
+        """Close the session that is open, if nobody has it."""
+        if self._session is not None and self._session() is None:
+            with contextlib.suppress(NoSession):
+                self._tell(_calls.CLOSE_SESSION)
+            self._session = None
 
     def session(self, *tables: str) -> Session:
         """Open a session that records these tables. There is one at a time: a second one raises

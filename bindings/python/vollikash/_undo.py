@@ -6,7 +6,7 @@ import tempfile
 from typing import TYPE_CHECKING, Any, Collection, Dict, Iterator, List, Optional, Tuple, Union
 
 from ._conflicts import Handler
-from ._errors import Error
+from ._errors import Error, Interrupted
 from ._files import invert
 from ._tables import stat
 from ._values import shown
@@ -104,10 +104,12 @@ class UndoStack:
             try:
                 yield action
                 action.changes = session.changeset()
-            except BaseException:
+            except BaseException as error:
                 # If that fails, the program has ended, and has left what was done.
                 with contextlib.suppress(Error):
                     session.undo()
+                    if isinstance(error, Interrupted) and error.is_done:
+                        error.is_done = False
                 raise
             finally:
                 self._is_acting = False
@@ -124,10 +126,15 @@ class UndoStack:
         what this has changed, and if that is nothing, the action is forgotten.
         """
         name, changes = self._last(self._done, "undo")
-        if on_conflict is None:
-            self.store.revert(changes)
-        else:
-            changes = invert(self._decided(invert(changes), on_conflict))
+        try:
+            if on_conflict is None:
+                self.store.revert(changes)
+            else:
+                changes = invert(self._decided(invert(changes), on_conflict))
+        except Interrupted as error:
+            if error.is_done:
+                self._move(self._done, self._undone, name, changes)
+            raise
         self._move(self._done, self._undone, name, changes)
         return name
 
@@ -136,10 +143,15 @@ class UndoStack:
         is none, and `ConflictError` as `undo`, which says what `on_conflict` does.
         """
         name, changes = self._last(self._undone, "redo")
-        if on_conflict is None:
-            self.store.apply(changes)
-        else:
-            changes = self._decided(changes, on_conflict)
+        try:
+            if on_conflict is None:
+                self.store.apply(changes)
+            else:
+                changes = self._decided(changes, on_conflict)
+        except Interrupted as error:
+            if error.is_done:
+                self._move(self._undone, self._done, name, changes)
+            raise
         self._move(self._undone, self._done, name, changes)
         return name
 
@@ -163,6 +175,8 @@ class UndoStack:
         """Return the last of some actions."""
         if self._is_acting:
             raise RuntimeError("an action is open, which can only be ended")
+        if self.store._is_begun:
+            raise RuntimeError(f"{what} in a transaction: the stack would not follow its roll back")
         if not actions:
             raise IndexError(f"there is nothing to {what}")
         return actions[-1]
@@ -170,8 +184,13 @@ class UndoStack:
     def _decided(self, file: bytes, on_conflict: Handler) -> bytes:
         """Apply a changeset whose conflicts a function decides. Return what that has changed."""
         with self.store.session(*stat(file)) as session:
-            self.store.apply(file, on_conflict=on_conflict)
-            return session.changeset()
+            try:
+                self.store.apply(file, on_conflict=on_conflict)
+                return session.changeset()
+            except Interrupted as error:
+                session.undo()
+                error.is_done = False
+                raise
 
     def _move(self, source: List[_Action], target: List[_Action], name: str, file: bytes) -> None:
         """Move the last action, which has this changeset now. One that changes nothing is dropped.
