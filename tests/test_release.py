@@ -198,8 +198,8 @@ class Archive(unittest.TestCase):
         self.assertEqual({(member.uid, member.gid, member.uname, member.gname) for member in members}, {(0, 0, "", "")})
         self.assertEqual({member.mtime for member in members}, {DATE})
         executable = {member.name.split("/", 1)[1] for member in members if member.isreg() and member.mode != 0o644}
-        programs = {"examples/notes/notes.py", "examples/sync/sync.py"}
-        self.assertEqual(executable, {"bin/changeset", "bin/changeset-calls", f"lib/libvollikash.so.{dist.VERSION}", *programs})
+        programs = {"bin/changeset", "bin/changeset-calls", "examples/notes/notes.py", "examples/sync/sync.py"}
+        self.assertEqual(executable, {f"lib/libvollikash.so.{dist.VERSION}", *programs})
         self.assertEqual({member.mode for member in members}, {0o644, 0o755, 0o777})
 
     def test_sums(self):
@@ -288,7 +288,7 @@ class Wheel(unittest.TestCase):
         (package,) = release().environment.glob("lib/python*/site-packages/vollikash")
         found = ("libvollikash.so", "changeset-calls", "changeset")
         self.assertEqual(printed, [str(package / name) for name in found])
-        self.assertEqual(files_below(package), files_below(PACKAGE) | {"libvollikash.so", "changeset", "changeset-calls"})
+        self.assertEqual(files_below(package), files_below(PACKAGE).union(found))
 
     def test_commands(self):
         """The programs themselves are on PATH, and the command if the package has it."""
@@ -425,7 +425,8 @@ class Editable(unittest.TestCase):
                 found = run(python, "-c", WHERE, cwd=folder).splitlines()
                 built = (TOP / "bindings/c/out/libvollikash.so", dist.CALLS, dist.PROGRAM)
                 self.assertEqual(found, list(map(str, built)))
-            commands = [name for name in ("changeset", "changeset-calls", "vollikash") if pathlib.Path(folder, "bin", name).exists()]
+            made = ("changeset", "changeset-calls", "vollikash")
+            commands = [name for name in made if pathlib.Path(folder, "bin", name).exists()]
             self.assertEqual(commands, ["vollikash"])
         self.assertEqual(sorted(PACKAGE.parent.iterdir()), before)
 

@@ -333,7 +333,8 @@ class Process:
 
     def _silent(self) -> ProgramError:
         """Return the error that the program has not answered in time."""
-        return ProgramError(f"the program has not answered in {self._timeout} seconds", self._text())
+        why = f"the program has not answered in {self._timeout} seconds"
+        return ProgramError(why, self._text())
 
     def _ended(self) -> ProgramError:
         """Return the error that the program has ended, with what it said."""

@@ -274,7 +274,7 @@ class Store:
         if self._owner is not None and self._owner is not _task():
             raise RuntimeError("another task has a transaction open")
         if self._is_reading and not is_read:
-            raise RuntimeError("what a call runs, a function or an iterator, can only read the store")
+            raise RuntimeError("a function or an iterator of a call can only read the store")
 
     def _tell(self, frame: bytes) -> None:
         """Make a call that returns nothing."""
@@ -377,8 +377,7 @@ class Store:
     def _page(
         self, table: str, after: Optional[Sequence[Value]], limit: Optional[int]
     ) -> Tuple[List[Row], bool]:
-        """Return some rows of a table, and whether there are more. There are fewer if they are long.
-        """
+        """Return some rows of a table, fewer if they are long, and whether there are more."""
         size = _PAGE if limit is None else min(limit, _PAGE)
         while True:
             try:
