@@ -1266,22 +1266,24 @@ class Interrupts(Folder):
         store = vollikash.open(":memory:")
         self.addCleanup(store.close)
 
+        ended = []
+
         def press():
             for _ in range(40):
                 time.sleep(0.05)
                 os.kill(os.getpid(), signal.SIGINT)
             time.sleep(0.05)
+            ended.append(True)
 
         # The number of the last answer, and how many calls were at least and at most made after it.
         last = caught = least = most = 0
         presser = threading.Thread(target=press)
         presser.start()
-        while True:
+        # Whether a thread runs is not known if an exception comes while it is asked.
+        while not ended:
             try:
-                if not presser.is_alive():
-                    break
                 if not store._process.is_open:
-                    presser.join()
+                    time.sleep(0.01)
                     continue
                 number = store.count("t")
                 self.assertTrue(last + least < number <= last + most + 1, (last, least, most, number))
@@ -1290,6 +1292,7 @@ class Interrupts(Folder):
                 caught += 1
                 is_done = getattr(error, "is_done", None)
                 least, most = least + (is_done is True), most + (is_done is not False)
+        presser.join()
         self.assertGreater(caught, 0)
 
 
