@@ -71,14 +71,14 @@ class CutTest(unittest.TestCase):
                 self.expect_store(others, most, opened, 0)
 
     def test_scripts(self):
-        """After each cut the tables are those from before the line that ran, or from behind it."""
+        """After each cut the tables are those from before the line that ran, or from after it."""
         for what, lines in STORE_SCRIPTS.items():
             with self.subTest(what):
                 self.expect_store([script_run(lines)], *SHARES)
 
     @unittest.skipUnless(CALLS_PROGRAM.exists(), "the program changeset-calls is not built")
     def test_calls(self):
-        """Behind each cut the tables are those that were committed before the call that ran, or those
+        """After each cut the tables are those that were committed before the call that ran, or those
         that it committed.
         """
         for what, asked in RUNS.items():

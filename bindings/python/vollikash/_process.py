@@ -216,7 +216,7 @@ class Process:
     def _finish(
         self, frame: bytes, sent: List[int], got: List[bytes], error: Optional[BaseException]
     ) -> bytes:
-        """Return the answer to a call of which this was written and read. Raise the exception of a
+        """Write and read what is left of a call, and return the answer. Raise the exception of a
         signal, if one has come, after it.
         """
         while True:

@@ -390,7 +390,7 @@ class Store:
     def _pages(
         self, table: str, first: Tuple[List[Row], bool], left: Optional[int]
     ) -> Iterator[List[Row]]:
-        """Yield the rows of a table in pages, of which the first one is read."""
+        """Yield the rows of a table in pages. The first one is already read."""
         page, has_more = first
         places: List[int] = []
         while page:

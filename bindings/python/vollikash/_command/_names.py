@@ -66,7 +66,7 @@ class Names:
     def __init__(self, path: Optional[str]) -> None:
         self._path = path
         self._known: Dict[Tuple[str, bytes], Sequence[str]] = {}
-        # A store has its declarations elsewhere than an ordinary database, and is open alone.
+        # A store has its declarations elsewhere than an ordinary database, and one program opens it.
         self._stored = {} if path is None else _stored(path)
         self._base = None if path is None else opened(path)
 
