@@ -1,11 +1,14 @@
 -- For which causes a run fails, and which writes those are.
-use Rattle.std.proofs.Common.{◌≡◌, inl, inr, false, ℕ, ◌<◌, List, ◌∷◌, ◌++◌, length, length-append, get_or, map, Option, Some, None, Result, Ok, Err, IfErr, IsErrAnd, refl, sym, ap, subst, ◌∙◌, arith}
-use Rattle.std.specs.Prelude.{Any}
+use Rattle.std.proofs.Common.{◌≡◌, inl, inr, Bool, false, ℕ, ◌<◌, List, [], ◌∷◌, ◌++◌, length, length-append, get_or, map, Option, Some, None, Result, Ok, Err, IfErr, IsErrAnd, refl, sym, ap, subst, ◌∙◌, arith}
+use Rattle.std.specs.Prelude.{Any, unwrap_or}
 use Rattle.std.proofs.lemmas.List.{length-map}
 use Rattle.std.proofs.Math.Seq.{get_or-append_seam}
 use Rattle.cs_value.specs.declared.value.OwnedValue.{OwnedValue}
 use Rattle.cs_value.specs.State.{State, row_at}
 use Rattle.cs_value.proofs.ListLemmas.{get_or_map_at}
+use Rattle.cs_value.specs.declared.value.OwnedField.TheVariants.{Defined}
+use Rattle.cs_wire_entries.specs.declared.entry.Change.{Change}
+use Rattle.cs_wire_entries.specs.declared.entry.Change.TheVariants.{Insert, Delete, Update}
 use Rattle.cs_wire_entries.specs.declared.entry.Entry.{Entry}
 use Rattle.cs_wire.specs.Entry.{key_of}
 use Rattle.cs_wire.specs.Changeset.{GroupData, HeaderData, IsFileOf}
@@ -14,9 +17,9 @@ use Rattle.cs_rows.specs.declared.fault.Cause.{Cause}
 use Rattle.cs_rows.specs.declared.fault.StoreError.{StoreError}
 use Rattle.cs_rows.specs.declared.fault.StoreError.TheVariants as store
 use Rattle.cs_rows.specs.Faults as stores
-use Rattle.cs_rows.specs.Rows.{Write}
+use Rattle.cs_rows.specs.Rows.{Write, puts_row}
 use Rattle.cs_rows.proofs.CauseLemmas as rows
-use Rattle.cs_apply_conflict_kinds.specs.Conflicts.{row_after}
+use Rattle.cs_apply_conflict_kinds.specs.Conflicts.{conflict_kind, filled, row_after}
 use Rattle.cs_group.specs.Inverse.{inverse_group}
 use Rattle.cs_apply_engine.specs.declared.fault.ApplyFault.{ApplyFault}
 use Rattle.cs_apply_engine.specs.declared.fault.ApplyFault.TheVariants.{Store, NoMemory}
@@ -77,6 +80,23 @@ entry_write header entry old now held write key current same own is_current is =
     at : (o : Option (List OwnedValue)) → row_after header.flags entry.change current ≡ o → write ≡ write_of header.name key o → IsEntryWrite header entry held write
     at None none wrote = subst (IsEntryWrite header entry held) (sym wrote) (refl, own, left ∙ none)
     at (Some row) some wrote = subst (IsEntryWrite header entry held) (sym wrote) (refl, own, left ∙ some)
+
+-- a whole row takes nothing from the row there
+filled_whole : (row stood : List OwnedValue) → filled (map Defined row) stood ≡ filled (map Defined row) []
+filled_whole [] stood = refl
+filled_whole (v ∷ row) [] = refl
+filled_whole (v ∷ row) (w ∷ stood) = ap (λ (l : List OwnedValue). v ∷ l) (filled_whole row stood)
+
+-- so what has no conflict without a row leaves the same, whatever row is there
+added_row : (flags : List ℕ) (refused : Bool) (change : Change) (stood : Option (List OwnedValue)) → conflict_kind refused change None ≡ None → row_after flags change stood ≡ row_after flags change None
+added_row flags refused (Insert row) stood none = ap (λ (l : List OwnedValue). Some l) (filled_whole row (unwrap_or stood []))
+added_row flags refused (Delete row) stood none = absurd cc
+added_row flags refused (Update old new) stood none = absurd cc
+
+pub added_write : (header : HeaderData) (entry : Entry) (old held : State) (write : Write) (key : List ℕ) (row : List OwnedValue) (refused : Bool) → key ≡ key_of header.flags entry.change
+    → conflict_kind refused entry.change None ≡ None → row_after header.flags entry.change None ≡ Some row → (held ≡ old) × (write ≡ puts_row header.name key row) → IsEntryWrite header entry held write
+added_write header entry old held write key row refused own none left is =
+    subst (IsEntryWrite header entry held) (sym is.1) (refl, own, added_row header.flags refused entry.change (row_at held header.name key) none ∙ left)
 
 -- what holds of an element of a list, or of what is made of one
 any_at : {X : Type 0} (P : X → Type 0) (xs : List X) (i : ℕ) (x : X) → i < length xs → x ≡ get_or xs i x → P x → Any P xs

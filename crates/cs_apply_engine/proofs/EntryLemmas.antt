@@ -1,5 +1,5 @@
 -- The row of an entry, in the table that is there.
-use Rattle.std.proofs.Common.{◌≡◌, ◌≢◌, ℕ, Bool, true, false, true≢false, ◌&&◌, if◌then◌else◌, List, [], ◌∷◌, ◌++◌, Option, Some, None, option_map, append_assoc, refl, sym, ap, ap₂, ◌∙◌}
+use Rattle.std.proofs.Common.{◌≡◌, ◌≢◌, ℕ, Bool, true, false, true≢false, ◌&&◌, if◌then◌else◌, List, [], ◌∷◌, ◌++◌, Option, Some, None, is_some, option_map, append_assoc, refl, sym, ap, ap₂, ◌∙◌}
 use Rattle.std.specs.Prelude.{IfSome}
 use Rattle.std.proofs.lemmas.List.{append-nil}
 use Rattle.std.proofs.lemmas.List.Elements.{All-nil, All-cons}
@@ -9,6 +9,7 @@ use Rattle.cs_value.specs.Value.{IsRow}
 use Rattle.cs_value.specs.Table.{IsKeyedRow}
 use Rattle.cs_value.specs.Key.{row_key}
 use Rattle.cs_value.specs.State.{SchemaData, TableData, State, Obeys}
+use Rattle.cs_wire_entries.specs.declared.entry.Change.{Change}
 use Rattle.cs_wire_entries.specs.declared.entry.Change.TheVariants.{Insert}
 use Rattle.cs_wire.specs.Entry.{before_image}
 use Rattle.cs_wire.specs.Changeset.{HeaderData}
@@ -63,6 +64,22 @@ fits_here state header key row has values keyed own obeys =
       obeys = rw rules at obeys;
       own = own ∙ key_of_same header.flags has.schema.flags (Insert row) back;
     })
+
+-- ---- an entry that has no conflict without a row
+
+-- where there is none
+pub none_is : {X : Type 0} (o : Option X) → is_some o ≡ false → o ≡ None
+none_is None none = refl
+none_is (Some x) none = absurd (true≢false none)
+
+-- no row is missed, and no rule is broken
+kind_is : (refused : Bool) (kind : Option Kind) → or_constraint refused kind ≡ None → (kind ≢ Some NotFound) × (refused ≡ false)
+kind_is true None none = absurd cc
+kind_is false None none = (λ same. absurd cc, refl)
+kind_is refused (Some kind) none = absurd cc
+
+pub no_conflict : (refused : Bool) (change : Change) → conflict_kind refused change None ≡ None → (kind_between (before_image change) None ≢ Some NotFound) × (refused ≡ false)
+no_conflict refused change none = kind_is refused (kind_between (before_image change) None) none
 
 -- ---- a conflict, and what is chosen for it
 

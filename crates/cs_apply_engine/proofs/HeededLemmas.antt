@@ -1,14 +1,15 @@
 -- Entries that are ignored, and the others.
-use Rattle.std.proofs.Common.{◌≡◌, Bool, true, false, cond, not, ◌+◌, List, [], ◌∷◌, ◌++◌, length, length-append, filter, Option, refl, ap, ap₂, ◌∙◌}
+use Rattle.std.proofs.Common.{◌≡◌, Bool, true, false, cond, not, ◌+◌, List, [], ◌∷◌, ◌++◌, length, length-append, filter, ℕ, Option, None, refl, ap, ap₂, ◌∙◌}
 use Rattle.std.specs.List.{AllByRecursion}
 use Rattle.std.proofs.lemmas.List.{nil_from_length}
 use Rattle.std.proofs.lemmas.List.Elements.{filter-append}
 use Rattle.cs_value.specs.declared.value.OwnedValue.{OwnedValue}
 use Rattle.cs_value.specs.State.{State}
 use Rattle.cs_value.proofs.ListLemmas.{AllByRecursion-weaker}
+use Rattle.cs_wire_entries.specs.declared.entry.Change.{Change}
 use Rattle.cs_apply_conflict_kinds.specs.declared.conflict.Noop.{Noop}
 use Rattle.cs_apply_conflict_kinds.specs.declared.conflict.Noop.TheVariants.{Report as Reported, Ignore}
-use Rattle.cs_apply_conflict_kinds.specs.Conflicts.{is_idle}
+use Rattle.cs_apply_conflict_kinds.specs.Conflicts.{conflict_kind, is_idle}
 use Rattle.cs_apply_engine.specs.Steps.{is_ignored}
 use Rattle.cs_apply_conflict_kinds.specs.Applying.{PlacedEntry, placed_key, current, refused_at, IsElsewhere, is_idle_at, heeded_of, ignored_of}
 use Rattle.cs_apply_engine.proofs.StepLemmas.{Apart}
@@ -33,6 +34,11 @@ ignored_none Reported s = refl
 ignored_none Ignore s = refl
 
 -- ---- one entry
+
+-- without a conflict it is not ignored
+pub heeded_clean : (noop : Noop) (refused : Bool) (flags : List ℕ) (change : Change) (row : Option (List OwnedValue)) → conflict_kind refused change row ≡ None → is_ignored noop refused flags change row ≡ false
+heeded_clean Reported refused flags change row none = refl
+heeded_clean Ignore refused flags change row none = rw none refl
 
 module _ (s : State) (p : PlacedEntry) where
   -- it is ignored

@@ -2,7 +2,7 @@
 use Rattle.std.specs.Prelude.{◌≡◌, ◌⊎◌, ℕ, ◌+◌, length, Bool, true, false, List, [], ◌∷◌, ◌++◌, map, filter_map, All, Option, None, Some}
 use Rattle.std.specs.List.{flat_map}
 use Rattle.cs_value.specs.declared.value.OwnedValue.{OwnedValue}
-use Rattle.cs_value.specs.State.{State, SchemaData, WrittenData, schema_at, with_row, without_row}
+use Rattle.cs_value.specs.State.{State, SchemaData, WrittenData, row_at, schema_at, with_row, without_row}
 use Rattle.cs_wire_entries.specs.declared.entry.Change.{Change}
 use Rattle.cs_wire.specs.Changeset.{HeaderData}
 use Rattle.cs_wire.specs.Items.{FlaggedEntry}
@@ -156,6 +156,12 @@ is_left_out (Ended ending) = false
 abbrev pub with_result : State → List ℕ → List ℕ → Option (List OwnedValue) → State
 with_result state table key None = without_row state table key
 with_result state table key (Some row) = with_row state table key row
+
+-- An entry that meets no conflict where no row has its key leaves its row there, and none had the key. Or nothing
+-- changes.
+abbrev pub AddsEntry : State → List ℕ → List ℕ → Option Kind → Option (List OwnedValue) → Bool → State → Type 0
+AddsEntry old table key kind row true new = (kind ≡ None) × (row_at old table key ≡ None) × (new ≡ with_result old table key row)
+AddsEntry old table key kind row false new = new ≡ old
 
 -- so the row is put, or removed
 abbrev pub write_of : List ℕ → List ℕ → Option (List OwnedValue) → Write

@@ -1,12 +1,13 @@
 //! One entry of a changeset, carried out.
-ghost use Rattle.std.specs.Prelude.{◌≡◌, ◌≢◌, ◌↔◌, ◌<◌, ◌≤◌, ◌+◌, [], ◌∷◌, ◌++◌, List, false, Some, IfOk, IfErr, IfSome, IsTrue, OnOk, option_map, is_ok};
+ghost use Rattle.std.specs.Prelude.{◌≡◌, ◌≢◌, ◌↔◌, ◌<◌, ◌≤◌, ◌+◌, [], ◌∷◌, ◌++◌, List, false, None, Some, IfOk, IfErr, IfSome, IsTrue, OnOk, option_map, is_ok};
 ghost use Rattle.std.specs.Fn.{FnReturnsAt};
 ghost use Rattle.std.specs.Rc.{rc_str_bytes};
 ghost use Rattle.cs_wire.specs.Entry.{key_of, before_image};
 ghost use Rattle.cs_rows.specs.Rows.{Fits};
 ghost use Rattle.cs_apply_conflict_kinds.specs.declared.conflict.Kind.TheVariants.{NotFound as NotFoundKind};
 ghost use Rattle.cs_apply_conflict_kinds.specs.declared.conflict.Noop.TheVariants.{Report as Reported};
-ghost use Rattle.cs_apply_conflict_kinds.specs.Conflicts.{kind_between, is_refused as breaks_rule, ends};
+ghost use Rattle.cs_apply_conflict_kinds.specs.Conflicts.{conflict_kind as kind_of, kind_between};
+ghost use Rattle.cs_apply_conflict_kinds.specs.Conflicts.{is_refused as breaks_rule, ends};
 ghost use Rattle.cs_apply_conflict_kinds.specs.Conflicts.{row_after as row_of_change};
 ghost use Rattle.cs_apply_conflict_kinds.specs.Applying.{conflict_with, refuses_at};
 ghost use Rattle.cs_apply_engine.specs.declared.entry.Settled.TheVariants.{Carried as CarriedOut};
@@ -14,7 +15,7 @@ ghost use Rattle.cs_value.specs.State.{WrittenData};
 ghost use Rattle.cs_apply_engine.specs.Tally.{Tallies, is_listed};
 ghost use Rattle.cs_apply_engine.specs.Running.{IsCaused, IsResource};
 ghost use Rattle.cs_apply_engine.specs.Steps.{HasTable, ComesTo, IsStoreRefusal, SettlesAs, AnswersAs, is_ignored, is_left_out, header_in, placed_in_table, settled_as, with_result};
-ghost use Rattle.cs_apply_engine.specs.Steps.{IsResultWrite};
+ghost use Rattle.cs_apply_engine.specs.Steps.{AddsEntry, IsResultWrite};
 ghost use Rattle.cs_apply_engine.specs.Writes.{IsEntryWrite};
 
 use crate::conflict::{Conflict, Met};
@@ -82,8 +83,50 @@ pub(crate) fn apply_entry<B: Rows, H: Fn(&Conflict) -> Choice>(
     ensures kept { B.keeps (IsEntryWrite (header_in (rc_str_bytes table.now) entry.now) entry.now.entry)
         (is_ok result) rows.old rows.new }
 {
-    let name = table.as_str();
     let key = entry.key(alloc)?;
+    if add_row(alloc, rows, table.as_str(), entry, &key, refuses)? {
+        tally.written.note(table, key, None)?;
+        return Ok(None);
+    }
+    apply_at_row(
+        alloc, rows, table, entry, key, refuses, noop, handler, tally,
+    )
+}
+
+/// Carries out an entry of a compatible table as [`apply_entry`] does, by the row of its key.
+fn apply_at_row<B: Rows, H: Fn(&Conflict) -> Choice>(
+    alloc: Global,
+    rows: &mut B,
+    table: &RcStr,
+    entry: &EntryRef<'_>,
+    key: Key,
+    refuses: &[bool],
+    noop: Noop,
+    handler: &H,
+    tally: &mut Tally,
+) -> Result<Option<Halt>, ApplyFault>
+    requires callable { H.IsAlwaysCallable handler.now }
+    requires key { key ≡ key_of entry.now.flags entry.now.entry.change }
+    requires count { tally.old.ignored < usize.MAX }
+    requires table { B.is_honest rows.old
+        → HasTable (B.state rows.old) (header_in (rc_str_bytes table.now) entry.now) }
+    requires rules { B.is_honest rows.old → refuses.now ≡ refuses_at (B.state rows.old) (rc_str_bytes table.now) }
+    ensures comes_to { B.is_honest rows.new → IfOk result (ComesTo (FnReturnsAt H.Fn handler.now) noop
+        (placed_in_table (rc_str_bytes table.now) entry.now) (B.state rows.old) tally.old (B.state rows.new)
+        tally.new) }
+    ensures skipped { tally.new.skipped ≡ tally.old.skipped }
+    ensures ignored { tally.new.ignored ≤ tally.old.ignored + 1 }
+    ensures reported { noop ≡ Reported → tally.new.ignored ≡ tally.old.ignored }
+    ensures listed { is_listed tally.new.written ≡ is_listed tally.old.written }
+    ensures refused { B.is_honest rows.new → IfErr result IsResource }
+    ensures named { IfErr result IsStoreRefusal }
+    ensures caused { B.is_honest rows.new → IfErr result (IsCaused (B.fails
+        (IsEntryWrite (header_in (rc_str_bytes table.now) entry.now) entry.now.entry) rows.old rows.new)) }
+    ensures was_honest { B.is_honest rows.new → B.is_honest rows.old }
+    ensures kept { B.keeps (IsEntryWrite (header_in (rc_str_bytes table.now) entry.now) entry.now.entry)
+        (is_ok result) rows.old rows.new }
+{
+    let name = table.as_str();
     let current = rows.get(alloc, name, &key)?;
     let conflicts = &mut tally.conflicts;
     match settle(
@@ -107,6 +150,38 @@ pub(crate) fn apply_entry<B: Rows, H: Fn(&Conflict) -> Choice>(
             Ok(None)
         }
         Settled::Ended(ending) => Ok(Some(ending)),
+    }
+}
+
+/// Adds the row of an entry that has no conflict where no row has its key, and returns whether it does: nothing changes
+/// where a row has the key, nor for another entry.
+fn add_row<B: Rows>(
+    alloc: Global,
+    rows: &mut B,
+    table: &str,
+    entry: &EntryRef<'_>,
+    key: &Key,
+    refuses: &[bool],
+) -> Result<bool, ApplyFault>
+    requires key { key.now ≡ key_of entry.now.flags entry.now.entry.change }
+    requires table { B.is_honest rows.old → HasTable (B.state rows.old) (header_in table.now entry.now) }
+    requires rules { B.is_honest rows.old → refuses.now ≡ refuses_at (B.state rows.old) table.now }
+    ensures added { B.is_honest rows.new → IfOk result (λ added. AddsEntry (B.state rows.old) table.now key.now
+        (kind_of (breaks_rule refuses.now entry.now.flags entry.now.entry.change) entry.now.entry.change None)
+        (row_of_change entry.now.flags entry.now.entry.change None) added (B.state rows.new)) }
+    ensures refused { IfErr result IsResource }
+    ensures caused { B.is_honest rows.new → IfErr result (IsCaused (B.fails
+        (IsEntryWrite (header_in table.now entry.now) entry.now.entry) rows.old rows.new)) }
+    ensures was_honest { B.is_honest rows.new → B.is_honest rows.old }
+    ensures kept { B.keeps (IsEntryWrite (header_in table.now entry.now) entry.now.entry)
+        (is_ok result) rows.old rows.new }
+{
+    if conflict_kind(entry, None, refuses).is_some() {
+        return Ok(false);
+    }
+    match row_after(alloc, entry, None)? {
+        Some(row) => Ok(rows.add(alloc, table, key, &row)?),
+        None => Ok(false),
     }
 }
 

@@ -87,30 +87,6 @@ fn find_row<B: Rows>(alloc: Global, rows: &mut B, table: &str, key: &Key) -> Res
     }
 }
 
-/// Refuses if a row of a declared table has the key.
-fn check_vacant<B: Rows>(
-    alloc: Global,
-    rows: &mut B,
-    table: &str,
-    key: &Key,
-) -> Result<(), StoreError>
-    requires { B.is_honest rows.old → IsDeclared (B.state rows.old) table.now }
-    ensures vacant { B.is_honest rows.new → OnOk result (row_at (B.state rows.old) table.now key.now ≡ None) }
-    ensures same { B.is_honest rows.new → OnOk result (B.state rows.new ≡ B.state rows.old) }
-    ensures refused { B.is_honest rows.new → IfErr result (λ e. ((e ≡ TakenKey)
-        × IsSome (row_at (B.state rows.old) table.now key.now)) ⊎ IsResource e) }
-    ensures named { IfErr result IsEditRefusal }
-    ensures caused { B.is_honest rows.new → IfErr result (IsCaused
-        (B.fails (λ _ _. ⊥) rows.old rows.new)) }
-    ensures was_honest { B.is_honest rows.new → B.is_honest rows.old }
-    ensures kept { B.keeps (λ _ _. ⊥) (is_answered result) rows.old rows.new }
-{
-    match rows.get(alloc, table, key)? {
-        Some(_) => Err(StoreError::KeyTaken),
-        None => Ok(()),
-    }
-}
-
 /// Returns the key of a row that fits a table of this schema.
 fn key_for(alloc: Global, schema: &Schema, row: &Row) -> Result<Key, StoreError>
     ensures key { IfOk result (λ key. IsRowAt schema.now key row.now) }
@@ -200,9 +176,10 @@ fn insert_row<B: Rows>(
 {
     let schema = find_schema(alloc, rows, table)?;
     let key = key_for(alloc, &schema, row)?;
-    check_vacant(alloc, rows, table, &key)?;
     let written = note_one(alloc, table, &key, None)?;
-    rows.put(alloc, table, &key, row)?;
+    if !rows.add(alloc, table, &key, row)? {
+        return Err(StoreError::KeyTaken);
+    }
     Ok(written)
 }
 
@@ -258,9 +235,10 @@ fn move_row<B: Rows>(
     ensures kept { B.keeps (IsUpdateOf (B.state rows.old) table.now key.now row.now)
         (is_answered result) rows.old rows.new }
 {
-    check_vacant(alloc, rows, table, next)?;
     let written = note_move(alloc, table, key, former, next)?;
-    rows.put(alloc, table, next, row)?;
+    if !rows.add(alloc, table, next, row)? {
+        return Err(StoreError::KeyTaken);
+    }
     rows.remove(alloc, table, key)?;
     Ok(written)
 }

@@ -4,7 +4,7 @@ ghost use Rattle.std.specs.Option.{option_copied};
 ghost use Rattle.std.specs.FinMap as map;
 ghost use Rattle.cs_rows.specs.declared.fault.StoreError.TheVariants.{NoMemory as OutOfMemory};
 ghost use Rattle.cs_value.specs.State.{IsRowAt, IsSchema, IsState, IsTable, schema_at, row_at, rows_at, with_row, without_row};
-ghost use Rattle.cs_rows.specs.Rows.{Fits};
+ghost use Rattle.cs_rows.specs.Rows.{Adds, Fits};
 ghost use Rattle.cs_rows.specs.Editing.{Declares, schema_of};
 ghost use Rattle.cs_value.specs.Table.{IsName};
 
@@ -259,6 +259,18 @@ impl Rows for MemRows {
             Some(row) => Ok(Some(row.copy(alloc)?)),
             None => Ok(None),
         }
+    }
+
+    fn add(&mut self, alloc: Global, table: &str, key: &Key, row: &Row) -> Result<bool, StoreError>
+        requires { Fits self.old table.now key.now row.now }
+        ensures added { IfOk result (λ added. Adds self.old table.now key.now row.now added self.new) }
+        ensures refused { IfErr result (λ e. e ≡ OutOfMemory) }
+    {
+        if self.row(table, key).is_some() {
+            return Ok(false);
+        }
+        self.put_row(table, key.copy(alloc)?, row.copy(alloc)?)?;
+        Ok(true)
     }
 
     fn put(&mut self, alloc: Global, table: &str, key: &Key, row: &Row) -> Result<(), StoreError>

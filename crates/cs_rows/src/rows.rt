@@ -3,7 +3,7 @@ ghost use Rattle.std.specs.Prelude.{◌≡◌, IfOk, IfErr, OnOk, IfSome, is_ok}
 ghost use Rattle.std.specs.FinMap as map;
 ghost use Rattle.cs_value.specs.State.{State, schema_at, row_at, rows_at, with_row, without_row};
 ghost use Rattle.cs_rows.specs.Faults.{IsCaused, IsResource, IsReadRefusal};
-ghost use Rattle.cs_rows.specs.Rows.{IsDeclared, Fits, puts_row, removes_row};
+ghost use Rattle.cs_rows.specs.Rows.{Adds, IsDeclared, Fits, puts_row, removes_row};
 
 use crate::fault::StoreError;
 use crate::schema::Schema;
@@ -83,6 +83,19 @@ pub trait Rows {
             → IfErr result (IsCaused (fails (λ _ _. ⊥) self.old self.new)) }
         ensures was_honest { is_honest self.new → is_honest self.old }
         ensures kept { keeps (λ _ _. ⊥) (is_ok result) self.old self.new };
+
+    /// Adds the row under its key to a declared table that it fits, and returns whether it does: nothing changes where
+    /// a row has the key.
+    fn add(&mut self, alloc: Global, table: &str, key: &Key, row: &Row) -> Result<bool, StoreError>
+        requires { is_honest self.old → Fits (state self.old) table.now key.now row.now }
+        ensures added { is_honest self.new → IfOk result (λ added. Adds (state self.old) table.now key.now row.now added
+            (state self.new)) }
+        ensures named { IfErr result IsResource }
+        ensures caused { is_honest self.new → IfErr result (IsCaused (fails
+            (λ held write. (held ≡ state self.old) × (write ≡ puts_row table.now key.now row.now)) self.old self.new)) }
+        ensures was_honest { is_honest self.new → is_honest self.old }
+        ensures kept { keeps (λ held write. (held ≡ state self.old) × (write ≡ puts_row table.now key.now row.now))
+            (is_ok result) self.old self.new };
 
     /// Puts the row at its key in a declared table that it fits, in place of the row there.
     fn put(&mut self, alloc: Global, table: &str, key: &Key, row: &Row) -> Result<(), StoreError>

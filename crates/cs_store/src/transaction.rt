@@ -614,6 +614,11 @@ impl<S: Alter> Rows for Transaction<S> {
         cs_store_tables::find_row(&mut store.conn, &mut store.known, alloc, table, key)
     }
 
+    fn add(&mut self, alloc: Global, table: &str, key: &Key, row: &Row) -> Result<bool, StoreError> {
+        let store = &mut self.store;
+        cs_store_tables::add_row(&mut store.conn, &mut store.known, alloc, table, key, row)
+    }
+
     fn put(&mut self, alloc: Global, table: &str, key: &Key, row: &Row) -> Result<(), StoreError> {
         let store = &mut self.store;
         cs_store_tables::put_row(&mut store.conn, &mut store.known, alloc, table, key, row)

@@ -61,11 +61,11 @@ pub has_own : (row : Row) → IsRecordRow row → has_rowid (id_in (rowid row)) 
 has_own row x = rw x.is (same_as_itself x.number)
 
 -- two rows have other rowids
-abbrev Apart : Row → Row → Type 0
+abbrev pub Apart : Row → Row → Type 0
 Apart a b = rowid a ≢ rowid b
 
 -- no row has the rowid of a row whose rowid is free
-not_taken : (rows : List Row) (new : Row) → is_taken rows new ≡ false → AllByRecursion (λ r. Apart r new) rows
+pub not_taken : (rows : List Row) (new : Row) → is_taken rows new ≡ false → AllByRecursion (λ r. Apart r new) rows
 not_taken [] new free = tt
 not_taken (r ∷ rows) new free =
     let parts = or_parts _ _ free in

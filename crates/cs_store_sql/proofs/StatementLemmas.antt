@@ -26,16 +26,20 @@ use Rattle.sqlite_resolve.specs.declared.compiled.Compiled.{Compiled}
 use Rattle.sqlite_resolve.specs.declared.error.CompileError.{CompileError}
 use Rattle.sqlite.specs.declared.error.Error.{Error}
 use Rattle.sqlite.specs.declared.error.Error.TheVariants.{SqliteFailure}
-use Rattle.sqlite.specs.declared.error.ErrorCode.TheVariants.{OutOfMemory}
+use Rattle.sqlite.specs.declared.error.ErrorCode.TheVariants.{OutOfMemory, ConstraintViolation}
+use Rattle.sqlite_schema.specs.declared.schema.Constraint.TheVariants.{Unique}
+use Rattle.sqlite_trees.specs.declared.error.StoreError.{StoreError}
 use Rattle.sqlite_trees.specs.declared.error.StoreError.TheVariants as cause
 use Rattle.sqlite.specs.Clock.{timed}
 use Rattle.sqlite.specs.Given.{IsPlain}
 use Rattle.sqlite.specs.Listing.{understood}
 use Rattle.sqlite.specs.Calls.{IsWrite}
 use Rattle.sqlite.specs.Effect.{is_query}
-use Rattle.sqlite.specs.State.{State, mode_of, Shows, Writes, HasCleanDisk, Survives, is_pragma, ExecutesIn, Executes, IsNotRun, IsNoStatement, IsUnchanged, IsRolledBack, IsMisplaced, Fails, MayCommit, RunsCommand, CommitsBy, shows_rows, text_of}
+use Rattle.sqlite.specs.State.{State, mode_of, Shows, Writes, HasCleanDisk, Survives, is_pragma, ExecutesIn, Executes, IsNotRun, IsNoStatement, IsUnchanged, IsRolledBack, IsMisplaced, Fails, MayCommit, RunsCommand, CommitsBy, shows_rows, store_error, text_of}
 use Rattle.sqlite.proofs.Callers.{command_of, statement_of, one_step}
 use Rattle.sqlite.proofs.StateLemmas.{survives_weaker}
+use Rattle.cs_store_sql.specs.declared.fault.RecordsError.TheVariants.{Database}
+use Rattle.cs_store_sql.specs.Faults.{not_unique, refusal_of}
 use Rattle.cs_store_sql.specs.Failing.{HasDiskFailed}
 use Rattle.cs_store_sql.specs.Records.{table_name, records_tree, IsApart, DeclaresRecords, Rests, KeepsCrash, GoesOn, IsUndone}
 use Rattle.cs_store_sql.proofs.RowLemmas.{same_is}
@@ -61,6 +65,37 @@ refusal_rests sql params old new e (inr ran) = elim (cases_Bool (shows_rows fals
   | inl shows ↦ inl (rw shows at ran.2).1
   | inr runs ↦ command_rests sql _ old new ran.0 e (rw runs at ran.2)
 ]
+
+-- one that is refused for none of the store's errors changes nothing
+command_stays : (sql : List ℕ) (params : Row) (old new : State) (c : Compiled) (e : Error) → ((kind : StoreError) → e ≢ store_error kind) → RunsCommand old new sql c params (Err e) → IsUnchanged old new
+command_stays sql params old new c e other (inl refused) = refused.1
+command_stays sql params old new c e other (inr fails) = absurd (other fails.0 fails.1)
+
+pub refusal_stays : (sql : List ℕ) (params : Row) (old new : State) (e : Error) → ((kind : StoreError) → e ≢ store_error kind) → Executes sql params old new (Err e) → IsUnchanged old new
+unfolding ExecutesIn IsNotRun
+refusal_stays sql params old new e other (inl (inl no_statement)) = no_statement.1
+refusal_stays sql params old new e other (inl (inr fails)) = absurd (other fails.0 fails.1)
+refusal_stays sql params old new e other (inr ran) = elim (cases_Bool (shows_rows false ran.0)) [
+  | inl shows ↦ (rw shows at ran.2).1
+  | inr runs ↦ command_stays sql _ old new ran.0 e other (rw runs at ran.2)
+]
+
+-- as one that is not unique
+pub not_of_store : (kind : StoreError) → SqliteFailure (ConstraintViolation Unique) ≢ store_error kind
+not_of_store cause.OutOfMemory same = absurd cc
+not_of_store cause.Io same = absurd cc
+not_of_store cause.Corrupt same = absurd cc
+not_of_store cause.Full same = absurd cc
+not_of_store cause.Broken same = absurd cc
+not_of_store cause.Unstorable same = absurd cc
+
+error_is : (e f : Error) → refusal_of e ≡ Database f → e ≡ f
+error_is (SqliteFailure OutOfMemory) f same = absurd cc
+error_is (SqliteFailure code) f same = cc
+error_is e f same = cc
+
+pub not_unique_stays : (sql : List ℕ) (params : Row) (old new : State) (e : Error) → refusal_of e ≡ not_unique → Executes sql params old new (Err e) → IsUnchanged old new
+not_unique_stays sql params old new e same = refusal_stays sql params old new e (λ kind is. not_of_store kind (sym (error_is e _ same) ∙ is))
 
 -- ---- for a text whose meaning is known
 

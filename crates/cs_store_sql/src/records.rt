@@ -5,6 +5,7 @@ ghost use Rattle.sqlite.specs.State.{FailsToQuery, HasCleanDisk, IsUnchanged, Ke
 ghost use Rattle.sqlite.specs.Held.{state};
 ghost use Rattle.sqlite_sql.specs.Aggregate.{count};
 ghost use Rattle.sqlite.specs.Values.{bound};
+ghost use Rattle.cs_store_sql.specs.Faults.{not_unique};
 ghost use Rattle.cs_store_sql.specs.Failing.{CannotCreate, CannotMake, CannotRead, EndsAs, FailsAt, IsFailure, puts, removes};
 ghost use Rattle.cs_store_sql.specs.Records.{DeclaresRecords, HoldsRecords, Sets, ListsTable, ListsPage, Counts};
 ghost use Rattle.cs_store_sql.specs.Records.{records_in, Makes, Rests, GoesOn, KeepsCrash};
@@ -89,8 +90,8 @@ fn put_text(is_new: bool) -> &'static str
     if is_new { texts::INSERT } else { texts::PUT }
 }
 
-/// Puts the value under a table's name and a key, inside a transaction: a new record, where it is known that none has
-/// them, so that none is looked for to be replaced.
+/// Puts the value under a table's name and a key, inside a transaction: as a new record, which the database refuses as
+/// not unique where one is there, or in place of that.
 pub fn put_record<S: Alter>(
     conn: &mut Connection<S>,
     tab: &str,
@@ -98,8 +99,8 @@ pub fn put_record<S: Alter>(
     value: &[u8],
     is_new: bool,
 ) -> Result<(), RecordsError>
-    requires { IsTrue is_new → HasCleanDisk (state S.Store conn.old) → HoldsRecords (state S.Store conn.old).now
-        → records_in (state S.Store conn.old).now tab.now key.now ≡ None }
+    ensures new { HasCleanDisk (state S.Store conn.new) → HoldsRecords (state S.Store conn.old).now
+        → OnOk result (IsTrue is_new → records_in (state S.Store conn.old).now tab.now key.now ≡ None) }
     ensures set { HasCleanDisk (state S.Store conn.new) → HoldsRecords (state S.Store conn.old).now
         → OnOk result (Sets (state S.Store conn.old).now (state S.Store conn.new).now
         tab.now key.now (Some value.now)) }
@@ -113,6 +114,8 @@ pub fn put_record<S: Alter>(
         → OnOk result ((state S.Store conn.new).marks ≡ (state S.Store conn.old).marks) }
     ensures rests { HasCleanDisk (state S.Store conn.new)
         → OnErr result (Rests (state S.Store conn.old) (state S.Store conn.new)) }
+    ensures refused { HasCleanDisk (state S.Store conn.new) → IfErr result (λ e. e ≡ not_unique
+        → IsUnchanged (state S.Store conn.old) (state S.Store conn.new)) }
     ensures failed { HasCleanDisk (state S.Store conn.new) → IfErr result
         (IsFailure (FailsAt (state S.Store conn.old) (state S.Store conn.new) (puts is_new tab.now key.now value.now))) }
     ensures was_clean { HasCleanDisk (state S.Store conn.new) → HasCleanDisk (state S.Store conn.old) }

@@ -1,7 +1,9 @@
 -- For which causes a call on a store fails.
-use Rattle.std.proofs.Common.{◌≡◌, inl, inr, ℕ, [], false, Result, Ok, Err, IfErr, OnOk, sym, subst, MatchResult, IsErrAnd, IsTrue, refl, List, None, true, true≢false, ◌∙◌, Bool}
-use Rattle.cs_store_tables.specs.Failing.{IsMade, LeadsOn, WriteFails, BatchFails, IsDeclarationOf, IsCauseOf, ReadFails, IsApt, PutFails, RemoveFails, Writes}
+use Rattle.std.proofs.Common.{◌≡◌, inl, inr, ℕ, [], false, Result, Ok, Err, IfErr, OnOk, sym, subst, MatchResult, IsErrAnd, IsTrue, refl, List, None, true, true≢false, ap, ◌∙◌, Bool}
+use Rattle.cs_store_tables.specs.Failing.{IsMade, LeadsOn, WriteFails, BatchFails, IsDeclarationOf, IsCauseOf, ReadFails, IsApt, IsAptFor, PutFails, RemoveFails, Writes}
 use Rattle.cs_store_sql.specs.Failing.{Statement, CannotWrite, FailsAt, IsFailure, CannotRead, puts, EndsAs, LeadsTo, itself, by_each, removes}
+use Rattle.cs_store_sql.specs.Faults.{not_unique}
+use Rattle.cs_store_sql.proofs.StatementLemmas.{not_of_store}
 use Rattle.cs_store_sql.proofs.WriteFailures.{write_fails}
 use Rattle.sqlite.specs.Effect.{Database as Shown}
 use Rattle.sqlite.specs.State.{State, HasCleanDisk, IsUnchanged}
@@ -34,8 +36,12 @@ pub caused : (Fails : Error → Type 0) (f : RecordsError) → IsFailure Fails f
 caused Fails NoMemory h = tt
 caused Fails (Database e) h = (e, h.0, h.1, refl)
 
+-- the error in a refusal
+error_in : (e f : Error) → Database e ≡ Database f → e ≡ f
+error_in e f same = cc
+
 -- a write that fails is refused, or the disk failed
-cannot_write : (old new : State) (statement : Statement) → (IsTrue old.is_open → DeclaresRecords old.now.schema) → (f : RecordsError) → IsFailure (FailsAt old new statement) f
+pub cannot_write : (old new : State) (statement : Statement) → (IsTrue old.is_open → DeclaresRecords old.now.schema) → (f : RecordsError) → IsFailure (FailsAt old new statement) f
     → IsFailure (CannotWrite old new statement) f
 cannot_write old new statement declared NoMemory h = tt
 cannot_write old new statement declared (Database e) h = (h.0, write_fails statement old new e declared h.0 h.1)
@@ -44,15 +50,27 @@ cannot_write old new statement declared (Database e) h = (h.0, write_fails state
 pub declared : (s : State) → IsSound s → HasCleanDisk s → IsTrue s.is_open → DeclaresRecords s.now.schema
 declared s sound clean is = ((sound clean).now is).records.declares
 
+-- a statement that a store makes is refused as one
+pub apt_for : (db : Shown) (statement : Statement) (e : Error) → IsApt db statement → IsAptFor db statement e
+apt_for db (puts true tab key value) e apt = λ same. apt
+apt_for db (puts false tab key value) e apt = apt
+apt_for db (removes tab key) e apt = apt
+
+-- so the store refuses it for such a cause
+pub write_caused : (old new : State) (statement : Statement) (f : RecordsError) → (IsTrue old.is_open → DeclaresRecords old.now.schema) → ((e : Error) → f ≡ Database e → IsAptFor old.now statement e)
+    → IsFailure (FailsAt old new statement) f → IsCaused (WriteFails old new statement) (refusal_of f)
+write_caused old new statement NoMemory known apt fails = tt
+write_caused old new statement (Database e) known apt fails =
+    let cannot = cannot_write old new statement known (Database e) fails in (e, cannot.0, (apt e refl, cannot.1), refl)
+
 -- and so where its refusal is that of the store
 pub caused_write : {X : Type 0} (Q : RecordsError → StoreError → Type 0) (old new : State) (statement : Statement) (answer : Result X RecordsError) (result : Result X StoreError)
-    → MatchResult answer (λ x. result ≡ Ok x) (λ f. IsErrAnd result (Q f)) → ((f : RecordsError) (e : StoreError) → Q f e → e ≡ refusal_of f) → (IsTrue old.is_open → DeclaresRecords old.now.schema) → IsApt old.now statement
+    → MatchResult answer (λ x. result ≡ Ok x) (λ f. IsErrAnd result (Q f)) → ((f : RecordsError) (e : StoreError) → Q f e → e ≡ refusal_of f) → (IsTrue old.is_open → DeclaresRecords old.now.schema) → ((e : Error) → answer ≡ Err (Database e) → IsAptFor old.now statement e)
     → IfErr answer (IsFailure (FailsAt old new statement)) → IfErr result (IsCaused (WriteFails old new statement))
 caused_write Q old new statement (Ok x) result is so known apt fails = subst (λ r. IfErr r (IsCaused (WriteFails old new statement))) (sym is) tt
 caused_write Q old new statement (Err f) (Ok x) is so known apt fails = tt
 caused_write Q old new statement (Err f) (Err e) is so known apt fails =
-    subst (IsCaused (WriteFails old new statement)) (sym (so f e is)) (so_caused (IsCauseOf (CannotWrite old new statement)) (WriteFails old new statement) (refusal_of f) (λ why by. (apt, by))
-    (caused (CannotWrite old new statement) f (cannot_write old new statement known f fails)))
+    subst (IsCaused (WriteFails old new statement)) (sym (so f e is)) (write_caused old new statement f known (λ error same. apt error (ap Err same)) fails)
 
 -- a refusal that is none of the database has each cause
 pub never_caused : (Fails : Cause → Type 0) (e : StoreError) → IsCaused (λ _. ⊥) e → IsCaused Fails e
@@ -75,32 +93,53 @@ apt db false tab key value new = tt
 pub put_fails : (old new : State) (name key : List ℕ) (row : List OwnedValue) (why : Cause) → PutFails old new name key row why
     → BatchFails (Writes (λ held write. (held ≡ tables_in old.now) × (write ≡ puts_row name key row))) old new why
 put_fails old new name key row why (inl outside) = inl outside
-put_fails old new name key row why (inr (is_new, (apt, (e, other, inl failed, is)))) = inr (e, other, inl (inl failed), is)
-put_fails old new name key row why (inr (is_new, (apt, (e, other, inr refused, is)))) = inr (
+put_fails old new name key row why (inr (is_new, (e, other, (apt, inl failed), is))) = inr (e, other, inl (inl failed), is)
+put_fails old new name key row why (inr (is_new, (e, other, (apt, inr refused), is))) = inr (
   e,
   other,
   inr (record {
     at = old.now;
     leads = itself;
     statement = puts is_new name key (row_bytes row);
-    is = ((puts_row name key row, (refl, refl, refl), (refl, refl)), apt);
+    is = (puts_row name key row, (refl, refl, refl), (refl, refl));
+    apt = apt;
     refused = refused;
   }),
   is,
 )
 
+-- a new row that the database refuses as not unique, where no row has its key
+pub refused_fails : (old mid new : State) (name key : List ℕ) (row : List OwnedValue) (f : RecordsError) → f ≡ not_unique → records_in old.now name key ≡ None
+    → IsFailure (CannotWrite old mid (puts true name key (row_bytes row))) f → IsCaused (BatchFails (Writes (λ held write. (held ≡ tables_in old.now) × (write ≡ puts_row name key row))) old new) (refusal_of f)
+refused_fails old mid new name key row NoMemory same free fails = tt
+refused_fails old mid new name key row (Database e) same free (other, inl failed) = absurd (not_of_store failed.0 (sym (error_in e _ same) ∙ failed.1))
+refused_fails old mid new name key row (Database e) same free (other, inr refused) = inr (
+  e,
+  other,
+  inr (record {
+    at = old.now;
+    leads = itself;
+    statement = puts true name key (row_bytes row);
+    is = (puts_row name key row, (refl, refl, refl), (refl, refl));
+    apt = λ unique. free;
+    refused = refused;
+  }),
+  refl,
+)
+
 pub remove_fails : (old new : State) (name key : List ℕ) (why : Cause) → RemoveFails old new name key why
     → BatchFails (Writes (λ held write. (held ≡ tables_in old.now) × (write ≡ removes_row name key))) old new why
 remove_fails old new name key why (inl outside) = inl outside
-remove_fails old new name key why (inr (apt, (e, other, inl failed, is))) = inr (e, other, inl (inl failed), is)
-remove_fails old new name key why (inr (apt, (e, other, inr refused, is))) = inr (
+remove_fails old new name key why (inr (e, other, (apt, inl failed), is)) = inr (e, other, inl (inl failed), is)
+remove_fails old new name key why (inr (e, other, (apt, inr refused), is)) = inr (
   e,
   other,
   inr (record {
     at = old.now;
     leads = itself;
     statement = removes name key;
-    is = ((removes_row name key, (refl, refl), (refl, refl)), apt);
+    is = (removes_row name key, (refl, refl), (refl, refl));
+    apt = apt;
     refused = refused;
   }),
   is,
@@ -109,15 +148,16 @@ remove_fails old new name key why (inr (apt, (e, other, inr refused, is))) = inr
 -- a declaration
 pub declare_fails : (old new : State) (name : List ℕ) (schema : tables.SchemaData) (why : Cause) → WriteFails old new (puts false [] name (declaration_bytes schema)) why
     → BatchFails (IsDeclarationOf (tables_in old.now) name schema) old new why
-declare_fails old new name schema why (apt, (e, other, inl failed, is)) = inr (e, other, inl (inl failed), is)
-declare_fails old new name schema why (apt, (e, other, inr refused, is)) = inr (
+declare_fails old new name schema why (e, other, (apt, inl failed), is) = inr (e, other, inl (inl failed), is)
+declare_fails old new name schema why (e, other, (apt, inr refused), is) = inr (
   e,
   other,
   inr (record {
     at = old.now;
     leads = itself;
     statement = puts false [] name (declaration_bytes schema);
-    is = ((refl, refl), apt);
+    is = (refl, refl);
+    apt = apt;
     refused = refused;
   }),
   is,

@@ -1,8 +1,10 @@
 -- What is known of a table, once its rows were written or read.
-use Rattle.std.proofs.Common.{◌≡◌, List, ℕ, Option, Some, None, option_map, refl, sym, ap, ◌∙◌, true≢false}
+use Rattle.std.proofs.Common.{◌≡◌, Bool, true, false, List, ℕ, Option, Some, None, option_map, refl, sym, ap, ◌∙◌, true≢false}
 use Rattle.std.specs.Prelude.{IsSome}
-use Rattle.std.specs.FinMap.{get}
-use Rattle.cs_value.specs.State.{TableData, RowMap, State, schema_at, row_at, with_rows}
+use Rattle.std.specs.FinMap.{get, insert}
+use Rattle.cs_value.specs.declared.value.OwnedValue.{OwnedValue}
+use Rattle.cs_value.specs.State.{TableData, RowMap, State, rows_at, schema_at, row_at, with_rows}
+use Rattle.cs_rows.specs.Rows.{Adds}
 use Rattle.cs_rows.proofs.WrittenRows.{same_schemas}
 use Rattle.sqlite.specs.State.{State as Connection, HasCleanDisk}
 use Rattle.cs_store_tables.specs.Store.{IsFreeKey, IsKnown, KnownData, Knows, tables_in, without_free_key}
@@ -16,6 +18,16 @@ knows_written old new (Some k) table rows was declared wrote knows clean = at (g
     at : (o : Option TableData) → get (tables_in old.now) table ≡ o → IsSome o → IsKnown (tables_in new.now) (k.0, k.1, None)
     at None none is = absurd (true≢false (sym is))
     at (Some found) is some = record { schema = ap (λ (s : State). schema_at s k.0) (wrote clean) ∙ same_schemas (tables_in old.now) table found rows is k.0 ∙ (knows (was clean)).schema; free = tt }
+
+-- and after a row was added, or one had its key
+knows_still : (old new : Connection) (known : Option KnownData) → (HasCleanDisk new → HasCleanDisk old) → (HasCleanDisk new → tables_in new.now ≡ tables_in old.now) → Knows old known → Knows new (without_free_key known)
+knows_still old new None was same knows clean = tt
+knows_still old new (Some k) was same knows clean = record { schema = ap (λ (s : State). schema_at s k.0) (same clean) ∙ (knows (was clean)).schema; free = tt }
+
+pub knows_added : (old new : Connection) (known : Option KnownData) (table key : List ℕ) (row : List OwnedValue) (added : Bool) → (HasCleanDisk new → HasCleanDisk old) → (HasCleanDisk old → IsSome (get (tables_in old.now) table))
+    → (HasCleanDisk new → Adds (tables_in old.now) table key row added (tables_in new.now)) → Knows old known → Knows new (without_free_key known)
+knows_added old new known table key row true was declared adds = knows_written old new known table (insert (rows_at (tables_in old.now) table) key row) was declared (λ clean. (adds clean).1)
+knows_added old new known table key row false was declared adds = knows_still old new known was (λ clean. (adds clean).1)
 
 -- and where nothing was written
 pub knows_same : (old new : Connection) (known : Option KnownData) → (HasCleanDisk new → HasCleanDisk old) → (HasCleanDisk new → new.now ≡ old.now) → Knows old known → Knows new known

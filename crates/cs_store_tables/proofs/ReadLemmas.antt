@@ -1,6 +1,6 @@
 -- What is read of a state that is stored.
 use Rattle.std.proofs.Common.{◌≡◌, ◌≢◌, ℕ, List, [], ◌∷◌, Option, Some, None, Result, Ok, Err, IfOk, IfErr, IfSome, true, false, length, ◌==◌, true≢false, arith, refl, sym, ap, ◌∙◌}
-use Rattle.std.specs.Option.{option_map}
+use Rattle.std.specs.Option.{is_some, option_map}
 use Rattle.std.proofs.lemmas.Bool.{eqb-true}
 use Rattle.std.specs.FinMap as map
 use Rattle.cs_value.specs.declared.value.OwnedValue.{OwnedValue}
@@ -15,7 +15,7 @@ use Rattle.cs_rows.specs.Faults.{IsResource}
 use Rattle.cs_store_sql.specs.Records.{KeepsCrash, record_rows, records_in}
 use Rattle.cs_store_tables.specs.Store.{HoldsState, IsSound, Recovers, tables_in}
 use Rattle.cs_store_encoding.specs.Stored.{state_of, table_in}
-use Rattle.cs_rows.specs.Rows.{Fits, IsRowIn}
+use Rattle.cs_rows.specs.Rows.{Fits, IsDeclared, IsRowIn}
 use Rattle.cs_rows.proofs.MemoryLemmas.{row_at_found, row_at_absent, rows_at_absent}
 use Rattle.cs_store_encoding.proofs.StoredLemmas.{declaration_stored, row_stored}
 use Rattle.cs_store_encoding.proofs.StateOf.{get_unread}
@@ -90,11 +90,36 @@ row_is state name key schema is has = at (tables.row_at state name key) (row_at_
 pub declared_named : (db : Database) (name : List ℕ) (schema : tables.SchemaData) → tables.schema_at (tables_in db) name ≡ Some schema → name ≢ []
 declared_named db name schema has e = absurd (let k = sym has ∙ ap (tables.schema_at (tables_in db)) e ∙ unnamed db in cc)
 
+-- a row of a declared table has its record
+pub declared_row : (db : Database) (name key : List ℕ) → HoldsState db → IsDeclared (tables_in db) name → records_in db name key ≡ option_map row_bytes (tables.row_at (tables_in db) name key)
+declared_row db name key holds declared = at (map.get (tables_in db) name) refl
+  where
+    at : (o : Option tables.TableData) → map.get (tables_in db) name ≡ o → records_in db name key ≡ option_map row_bytes (tables.row_at (tables_in db) name key)
+    at None none = absurd (let some = rw none at declared in cc)
+    at (Some table) found = row_stored (records_in db) (tables_in db) name key holds.stores (declared_named db name table.schema (ap (option_map (λ (t : tables.TableData). t.schema)) found))
+
+-- as is one that a row fits
+pub declared_by : (state : tables.State) (name key : List ℕ) (row : List OwnedValue) → Fits state name key row → IsDeclared state name
+declared_by state name key row fits = ap (λ (o : Option tables.TableData). is_some o) fits.found
+
+-- what is made of it is there where it is
+pub some_mapped : {X Y : Type 0} (f : X → Y) (o : Option X) → is_some (option_map f o) ≡ is_some o
+some_mapped f None = refl
+some_mapped f (Some x) = refl
+
 -- there is no record without a row
 pub no_record : (db : Database) (name key : List ℕ) (row : List OwnedValue) → HoldsState db → Fits (tables_in db) name key row → tables.row_at (tables_in db) name key ≡ None → records_in db name key ≡ None
 no_record db name key row holds fits none =
     let has = ap (option_map (λ (t : tables.TableData). t.schema)) fits.found in
     row_stored (records_in db) (tables_in db) name key holds.stores (declared_named db name fits.table.schema has) ∙ ap (option_map row_bytes) none
+
+-- nor a row without a record
+none_mapped : {X Y : Type 0} (f : X → Y) (o : Option X) → option_map f o ≡ None → o ≡ None
+none_mapped f None none = refl
+none_mapped f (Some x) none = absurd cc
+
+pub free_row : (db : Database) (name key : List ℕ) (row : List OwnedValue) → HoldsState db → Fits (tables_in db) name key row → records_in db name key ≡ None → tables.row_at (tables_in db) name key ≡ None
+free_row db name key row holds fits none = none_mapped row_bytes _ (sym (declared_row db name key holds (declared_by (tables_in db) name key row fits)) ∙ none)
 
 -- a table that is not there has no row
 pub no_row : (state : tables.State) (name key : List ℕ) → tables.schema_at state name ≡ None → tables.row_at state name key ≡ None

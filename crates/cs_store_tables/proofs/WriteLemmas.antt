@@ -99,6 +99,16 @@ module _ (old new : State) {X E : Type 0} (result : Result X E) (name key : List
       on_ok_both result _ _ _ (λ (w : GoesOn old new × HoldsState new.now × KeepsOthers old.now new.now) same. (w.0, w.1, w.2, same))
       (on_ok_both result _ _ _ (λ set on. (on, (means (was_clean old new crash clean) (shown clean) set).0, set.others)) (sets clean records) (goes_on clean records inside)) (marks clean records)) rests
 
+-- a row is put, by its bytes
+pub put_keeps : (old new : State) {X E : Type 0} (result : Result X E) (name key : List ℕ) (row : List OwnedValue) (tie value : List ℕ) (sound : IsSound old) (inside : IsTrue old.in_transaction)
+    → (HasCleanDisk old → Fits (tables_in old.now) name key row) → tie ≡ key → value ≡ row_bytes row
+    → ((HasCleanDisk old → HoldsRecords old.now) → (HasCleanDisk old → IsTrue old.in_transaction) → KeepsCrash old new)
+    → (HasCleanDisk new → HoldsRecords old.now → OnOk result (Sets old.now new.now name tie (Some value)))
+    → (HasCleanDisk new → HoldsRecords old.now → IsTrue old.in_transaction → OnOk result (GoesOn old new)) → (HasCleanDisk new → HoldsRecords old.now → OnOk result (new.marks ≡ old.marks))
+    → (HasCleanDisk new → OnErr result (Rests old new)) → KeepsStore old new
+put_keeps old new result name key row tie value sound inside fits tied spelled survives sets =
+    written_keeps old new result name tie (Some value) _ sound inside (λ clean holds set. row_put old.now new.now name key row holds (fits clean) (rw (tied, spelled) at set)) survives sets
+
 -- the trees of a database that holds a state are a store's
 pub may_leave : (s : State) (Holds : tables.State → Type 0) (trees : Trees) → HoldsState s.now → Holds (tables_in s.now) → trees ≡ s.now.trees → MayLeave Holds trees
 may_leave s Holds trees holds shows same = subst (MayLeave Holds) (sym same) (record { schema = s.now.schema; store = holds; tables = shows })

@@ -3,7 +3,8 @@ use Rattle.std.specs.Prelude.{◌≡◌, ◌≢◌, ◌⊎◌, ℕ, Bool, true, 
 use Rattle.sqlite_trees.specs.declared.store.Store.{Ghosts}
 use Rattle.sqlite.specs.declared.error.Error.{Error}
 use Rattle.sqlite.specs.declared.error.Error.TheVariants.{SqliteFailure}
-use Rattle.sqlite.specs.declared.error.ErrorCode.TheVariants.{OutOfMemory}
+use Rattle.sqlite.specs.declared.error.ErrorCode.TheVariants.{ConstraintViolation, OutOfMemory}
+use Rattle.sqlite_schema.specs.declared.schema.Constraint.TheVariants.{Unique}
 use Rattle.sqlite.specs.Effect.{Database}
 use Rattle.sqlite.specs.Held.{Held, state}
 use Rattle.sqlite.specs.State.{State}
@@ -31,12 +32,18 @@ IsApt db (puts true tab key value) = records_in db tab key ≡ None
 IsApt db (puts false tab key value) = Unit {0}
 IsApt db (removes tab key) = Unit {0}
 
+-- The database refuses a statement that a store makes. Where it refuses a new record as not unique, none is there:
+-- another index refuses it.
+abbrev pub IsAptFor : Database → Statement → Error → Type 0
+IsAptFor db (puts true tab key value) error = error ≡ SqliteFailure (ConstraintViolation Unique) → records_in db tab key ≡ None
+IsAptFor db statement error = IsApt db statement
+
 -- A read fails for this cause, and a write.
 abbrev pub ReadFails : State → State → Cause → Type 0
 ReadFails old new = IsCauseOf (CannotRead old new)
 
 abbrev pub WriteFails : State → State → Statement → Cause → Type 0
-WriteFails old new statement cause = IsApt old.now statement × IsCauseOf (CannotWrite old new statement) cause
+WriteFails old new statement = IsCauseOf (λ error. IsAptFor old.now statement error × CannotWrite old new statement error)
 
 -- No transaction is open to write in. The cause is Other.
 abbrev pub IsOutside : State → Cause → Type 0
@@ -92,13 +99,15 @@ pub record LeadsOn (Is : tables.State → Statement → Type 0) (old new : State
   pub inside : IsTrue old.in_transaction → IsTrue new.in_transaction
   pub leads : LeadsTo (IsMade Is) old.step_limit old.now new.now
 
--- Statements lead to the database `at`, and it refuses one more. `Is` holds of each of them, also of that one.
+-- Statements lead to the database `at`, and it refuses one more that a store makes. `Is` holds of each of them, also of
+-- that one.
 pub record IsRefused (Is : tables.State → Statement → Type 0) (limit : Option ℕ) (from : Database) (error : Error) :
     Type 0 where
   pub at : Database
   pub leads : LeadsTo (IsMade Is) limit from at
   pub statement : Statement
-  pub is : IsMade Is at statement
+  pub is : Is (tables_in at) statement
+  pub apt : IsAptFor at statement error
   pub refused : Refuses limit at statement error
 
 -- The disk failed between the ends of a call, or the connection was shut or limits the steps of a query, or a database

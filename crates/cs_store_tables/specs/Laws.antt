@@ -201,6 +201,7 @@ module _ (Is : tables.State → Statement → Type 0) (a b c : State) (one : Kee
     leads = leads_to_then leads (subst (λ limit. LeadsTo (IsMade Is) limit b.now refused.at) one.limit refused.leads);
     statement = refused.statement;
     is = refused.is;
+    apt = refused.apt;
     refused = subst (λ limit. Refuses limit refused.at refused.statement e) one.limit refused.refused;
   }
 
@@ -233,7 +234,8 @@ batch_so Is Are a b why so (inr (e, other, inr refused, is)) = inr (
     at = refused.at;
     leads = leads_to_so Is Are so refused.leads;
     statement = refused.statement;
-    is = (so (tables_in refused.at) refused.statement refused.is.0, refused.is.1);
+    is = so (tables_in refused.at) refused.statement refused.is;
+    apt = refused.apt;
     refused = refused.refused;
   }),
   is,

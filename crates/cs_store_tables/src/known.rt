@@ -7,7 +7,7 @@ ghost use Rattle.cs_value.specs.Table.{IsName};
 ghost use Rattle.cs_value.specs.State.{schema_at, row_at, rows_at, with_row, without_row};
 ghost use Rattle.cs_rows.specs.declared.fault.StoreError.TheVariants.{TableExists as TakenName};
 ghost use Rattle.cs_rows.specs.Faults.{IsCaused, IsResource, IsReadRefusal, is_answered};
-ghost use Rattle.cs_rows.specs.Rows.{IsDeclared, Fits, puts_row, removes_row};
+ghost use Rattle.cs_rows.specs.Rows.{Adds, IsDeclared, Fits, puts_row, removes_row};
 ghost use Rattle.cs_store_tables.specs.Failing.{BatchFails, IsDeclarationOf, LeadsOn, PutFails, ReadFails, RemoveFails, Writes};
 ghost use Rattle.cs_store_tables.specs.Pages.{page_in};
 ghost use Rattle.cs_store_tables.specs.Store.{AddsTable, IsFreeKey, IsSound, KeepsStore, Knows, RefusesShut};
@@ -250,6 +250,48 @@ pub fn count_rows<S: Alter>(
             }
         },
         None => Ok(0),
+    }
+}
+
+/// Adds a row under its key to a table that it fits, and returns whether it does: nothing changes where a row has the
+/// key. It is refused outside a transaction.
+pub fn add_row<S: Alter>(
+    conn: &mut Connection<S>,
+    known: &mut Option<KnownTable>,
+    alloc: Global,
+    name: &str,
+    key: &Key,
+    row: &Row,
+) -> Result<bool, StoreError>
+    requires sound { IsSound (state S.Store conn.old) }
+    requires knows { Knows (state S.Store conn.old) known.old }
+    requires fits { HasCleanDisk (state S.Store conn.old)
+        → Fits (tables_in (state S.Store conn.old).now) name.now key.now row.now }
+    ensures added { HasCleanDisk (state S.Store conn.new) → IfOk result (λ added. Adds
+        (tables_in (state S.Store conn.old).now) name.now key.now row.now added
+        (tables_in (state S.Store conn.new).now)) }
+    ensures refused { IfErr result IsResource }
+    ensures caused { HasCleanDisk (state S.Store conn.new) → IfErr result (IsCaused (BatchFails (Writes (λ held write.
+        (held ≡ tables_in (state S.Store conn.old).now) × (write ≡ puts_row name.now key.now row.now)))
+        (state S.Store conn.old) (state S.Store conn.new))) }
+    ensures knows { Knows (state S.Store conn.new) known.new }
+    ensures leads { HasCleanDisk (state S.Store conn.new)
+        → OnOk result (LeadsOn (Writes (λ held write. (held ≡ tables_in (state S.Store conn.old).now)
+        × (write ≡ puts_row name.now key.now row.now))) (state S.Store conn.old) (state S.Store conn.new)) }
+    ensures kept { KeepsStore (state S.Store conn.old) (state S.Store conn.new) }
+{
+    if conn.is_autocommit() {
+        return Err(StoreError::StoreFault(Cause::Other));
+    }
+    match tables::add_row(conn, alloc, name, key, row) {
+        Ok(added) => {
+            forget_key(known);
+            Ok(added)
+        }
+        Err(error) => {
+            *known = None;
+            Err(error)
+        }
     }
 }
 

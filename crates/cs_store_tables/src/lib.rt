@@ -18,8 +18,8 @@ mod tables;
 
 pub use ending::{commit, go_back, mark, release};
 pub use known::{
-    KnownTable, add_table, count_rows, find_row, find_schema, list_page, list_rows, put_row,
-    remove_row,
+    KnownTable, add_row, add_table, count_rows, find_row, find_schema, list_page, list_rows,
+    put_row, remove_row,
 };
 pub use refusal::refused;
 pub use tables::list_tables;

@@ -2,7 +2,7 @@
 ghost use Rattle.std.specs.FinMap as map;
 ghost use Rattle.cs_rows.specs.declared.fault.StoreError.TheVariants.{DamagedStore as Damaged};
 ghost use Rattle.std.specs.Prelude.{◌≡◌, ◌⊎◌, ◌<◌, ◌^◌, unwrap_or, map as map_list, IsTrue, OnOk, IfOk};
-ghost use Rattle.std.specs.Prelude.{IfErr, IfSome, Option, Some, None, ℕ, List, [], ◌∷◌, false, length, option_map, string_bytes};
+ghost use Rattle.std.specs.Prelude.{is_some, IsSome, IfErr, IfSome, Option, Some, None, ℕ, List, [], ◌∷◌, false, length, option_map, string_bytes};
 ghost use Rattle.std.specs.List.{AllByRecursion};
 ghost use Rattle.cs_value.specs.Table.{IsName};
 ghost use Rattle.cs_value.specs.declared.value.OwnedValue.{OwnedValue};
@@ -11,12 +11,13 @@ ghost use Rattle.cs_value.specs.State.{SchemaData, IsSchema, schema_at, row_at, 
 ghost use Rattle.cs_value.specs.State.{with_row, without_row};
 ghost use Rattle.cs_store_encoding.specs.Declaration.{declaration_bytes};
 ghost use Rattle.sqlite.specs.State.{HasCleanDisk, IsUnchanged};
-ghost use Rattle.cs_store_sql.specs.Records.{Rests};
+ghost use Rattle.cs_store_sql.specs.Records.{KeepsCrash, Rests};
 ghost use Rattle.sqlite.specs.Held.{state};
 ghost use Rattle.cs_rows.specs.Faults.{IsCaused, IsResource, IsReadRefusal};
 ghost use Rattle.cs_store_sql.specs.Failing.{puts, removes};
-ghost use Rattle.cs_store_tables.specs.Failing.{IsDeclarationOf, LeadsOn, ReadFails, WriteFails};
-ghost use Rattle.cs_rows.specs.Rows.{IsDeclared, Fits, IsRowIn};
+ghost use Rattle.cs_store_tables.specs.Failing.{BatchFails, IsDeclarationOf, LeadsOn, ReadFails, WriteFails, Writes};
+ghost use Rattle.cs_store_tables.specs.Refusals.{refusal_of};
+ghost use Rattle.cs_rows.specs.Rows.{Adds, IsDeclared, Fits, IsRowIn, puts_row};
 ghost use Rattle.cs_store_tables.specs.Pages.{page_in};
 ghost use Rattle.cs_store_tables.specs.Store.{IsSound, KeepsStore, Recovers, RecoversList, RefusesShut};
 ghost use Rattle.cs_store_tables.specs.Store.{AddsTable, AreNamed, AreStored, HoldsState, tables_in};
@@ -24,7 +25,7 @@ ghost use Rattle.cs_store_tables.specs.Store.{AddsTable, AreNamed, AreStored, Ho
 use crate::refusal::refused;
 use cs_rows::{Schema, StoreError};
 use cs_store_encoding::{read_declaration, read_name, read_row, write_declaration};
-use cs_store_sql::{Keyed, count_records, find_record, list_records, put_record, remove_record};
+use cs_store_sql::{Keyed, RecordsError, count_records, find_record, list_records, put_record, remove_record};
 use cs_value::{Key, Row, row_write};
 use sqlite::{Alter, Connection};
 use std::alloc::Global;
@@ -236,6 +237,93 @@ fn rows_in(alloc: Global, schema: &Schema, listed: &[Keyed]) -> Result<Vec<Row>,
         }
     }
     Ok(rows)
+}
+
+/// Whether a row of a declared table has this key.
+fn has_row<S: Alter>(
+    conn: &mut Connection<S>,
+    name: &str,
+    key: &Key,
+) -> Result<bool, StoreError>
+    ensures found { IsSound (state S.Store conn.old) → HasCleanDisk (state S.Store conn.new)
+        → IsDeclared (tables_in (state S.Store conn.old).now) name.now
+        → IfOk result (λ has. has ≡ is_some (row_at (tables_in (state S.Store conn.old).now) name.now key.now)) }
+    ensures refused { IfErr result IsResource }
+    ensures caused { IsSound (state S.Store conn.old) → HasCleanDisk (state S.Store conn.new)
+        → IfErr result (IsCaused (ReadFails (state S.Store conn.old) (state S.Store conn.new))) }
+    ensures reads { HasCleanDisk (state S.Store conn.new)
+        → OnOk result (IsUnchanged (state S.Store conn.old) (state S.Store conn.new)) }
+    ensures rests { HasCleanDisk (state S.Store conn.new) → Rests (state S.Store conn.old) (state S.Store conn.new) }
+    ensures keeps_crash { KeepsCrash (state S.Store conn.old) (state S.Store conn.new) }
+{
+    match find_record(conn, name, key.bytes()) {
+        Ok(found) => Ok(found.is_some()),
+        Err(error) => Err(refused(error)),
+    }
+}
+
+/// Returns false where a row has the key of a new row that the database refused as not unique, and else the refusal:
+/// another index refused the row.
+fn expect_row<S: Alter>(
+    conn: &mut Connection<S>,
+    name: &str,
+    key: &Key,
+    refusal: RecordsError,
+) -> Result<bool, StoreError>
+    ensures found { IsSound (state S.Store conn.old) → HasCleanDisk (state S.Store conn.new)
+        → IsDeclared (tables_in (state S.Store conn.old).now) name.now → IfOk result (λ added. (added ≡ false)
+        × IsSome (row_at (tables_in (state S.Store conn.old).now) name.now key.now)) }
+    ensures refused { IfErr result IsResource }
+    ensures caused { IsSound (state S.Store conn.old) → HasCleanDisk (state S.Store conn.new)
+        → IsDeclared (tables_in (state S.Store conn.old).now) name.now → IfErr result (λ e.
+        IsCaused (ReadFails (state S.Store conn.old) (state S.Store conn.new)) e ⊎ ((e ≡ refusal_of refusal)
+        × (row_at (tables_in (state S.Store conn.old).now) name.now key.now ≡ None))) }
+    ensures reads { HasCleanDisk (state S.Store conn.new)
+        → OnOk result (IsUnchanged (state S.Store conn.old) (state S.Store conn.new)) }
+    ensures rests { HasCleanDisk (state S.Store conn.new) → Rests (state S.Store conn.old) (state S.Store conn.new) }
+    ensures keeps_crash { KeepsCrash (state S.Store conn.old) (state S.Store conn.new) }
+{
+    if has_row(conn, name, key)? {
+        Ok(false)
+    } else {
+        Err(refused(refusal))
+    }
+}
+
+/// Adds a row under its key to a table that it fits, inside a transaction, and returns whether it does: nothing changes
+/// where a row has the key.
+pub fn add_row<S: Alter>(
+    conn: &mut Connection<S>,
+    alloc: Global,
+    name: &str,
+    key: &Key,
+    row: &Row,
+) -> Result<bool, StoreError>
+    requires { HasCleanDisk (state S.Store conn.old)
+        → Fits (tables_in (state S.Store conn.old).now) name.now key.now row.now }
+    ensures added { IsSound (state S.Store conn.old) → IsTrue (state S.Store conn.old).in_transaction
+        → HasCleanDisk (state S.Store conn.new) → IfOk result (λ added. Adds
+        (tables_in (state S.Store conn.old).now) name.now key.now row.now added
+        (tables_in (state S.Store conn.new).now)) }
+    ensures refused { IfErr result IsResource }
+    ensures caused { IsSound (state S.Store conn.old) → IsTrue (state S.Store conn.old).in_transaction
+        → HasCleanDisk (state S.Store conn.new) → IfErr result (IsCaused (BatchFails (Writes (λ held write.
+        (held ≡ tables_in (state S.Store conn.old).now) × (write ≡ puts_row name.now key.now row.now)))
+        (state S.Store conn.old) (state S.Store conn.new))) }
+    ensures leads { IsSound (state S.Store conn.old) → IsTrue (state S.Store conn.old).in_transaction
+        → HasCleanDisk (state S.Store conn.new) → OnOk result (LeadsOn (Writes (λ held write.
+        (held ≡ tables_in (state S.Store conn.old).now) × (write ≡ puts_row name.now key.now row.now)))
+        (state S.Store conn.old) (state S.Store conn.new)) }
+    ensures kept { IsSound (state S.Store conn.old) → IsTrue (state S.Store conn.old).in_transaction
+        → KeepsStore (state S.Store conn.old) (state S.Store conn.new) }
+{
+    let mut bytes = Vec::new(alloc);
+    row_write(&mut bytes, row)?;
+    match put_record(conn, name, key.bytes(), &bytes, true) {
+        Ok(()) => Ok(true),
+        Err(error) if error.is_not_unique() => expect_row(conn, name, key, error),
+        Err(error) => Err(refused(error)),
+    }
 }
 
 /// Puts a row under its key in a table that it fits, inside a transaction: a new row, where it is known that none has

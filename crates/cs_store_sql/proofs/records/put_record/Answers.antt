@@ -1,6 +1,7 @@
--- `records::put_record`: the clauses `rests`, `survives`, `set`, `ends`, `goes_on` and `marks`.
+-- `records::put_record`: the clauses `new`, `refused`, `rests`, `survives`, `set`, `ends`, `goes_on` and `marks`.
 use Rattle.cs_store_sql.proofs.QueryLemmas.{on_err}
-use Rattle.cs_store_sql.proofs.StatementLemmas.{refusal_rests}
+use Rattle.std.proofs.lemmas.Result.{err_from_is_err_and}
+use Rattle.cs_store_sql.proofs.StatementLemmas.{not_unique_stays, refusal_rests}
 use Rattle.cs_store_sql.proofs.PutLemmas.{put_goes_on, put_keeps_crash, put_keeps_marks}
 use Rattle.cs_store_sql.specs.Failing.{puts}
 use Rattle.cs_store_sql.proofs.AddLemmas as add
@@ -10,8 +11,17 @@ use Rattle.cs_store_sql.proofs.records.put_record.Goals as goal
 pub returns-in_err-execute-clause-rests : goal.returns-in_err-execute-clause-rests
 returns-in_err-execute-clause-rests g c clean = on_err c.from_residual.result _ (refusal_rests _ _ _ _ _ (c.in_err-execute.ensures.runs clean))
 
+pub returns-in_err-execute-clause-refused : goal.returns-in_err-execute-clause-refused
+returns-in_err-execute-clause-refused g c clean =
+    let p = err_from_is_err_and c.from_residual.result c.from_residual.ensures.1 in
+    rw (p.1, p.2) (λ same. not_unique_stays _ _ _ _ _ same (c.in_err-execute.ensures.runs clean))
+
 pub returns-in_err-execute-clause-survives : goal.returns-in_err-execute-clause-survives
 returns-in_err-execute-clause-survives g c has inside = put_keeps_crash c.args.is_new _ _ _ (λ clean. (has clean).declares) inside (rw c.put_text.ensures at c.execute.ensures.survives)
+
+pub returns-clause-new : goal.returns-clause-new
+returns-clause-new g c clean has =
+    add.new_was_free c.args.is_new _ _ _ _ _ _ has (rw (c.put_text.ensures, c.params-to_sql.ensures, c.params-to_sql-2.ensures, c.params-to_sql-3.ensures) at (c.in_ok-execute.ensures.runs clean))
 
 pub returns-clause-set : goal.returns-clause-set
 returns-clause-set g c clean has =

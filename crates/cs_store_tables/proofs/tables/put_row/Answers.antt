@@ -1,11 +1,11 @@
 -- `tables::put_row`: the clauses `put`, `caused`, `leads` and `kept`.
 use Rattle.std.proofs.Common.{◌≡◌, Some, refl, rules}
-use Rattle.cs_store_tables.proofs.FailureLemmas.{caused_write, apt, declared, write_leads}
+use Rattle.cs_store_tables.proofs.FailureLemmas.{caused_write, apt, apt_for, declared, write_leads}
 use Rattle.cs_store_sql.specs.Failing.{puts}
 use Rattle.sqlite.specs.Held.{state}
 use Rattle.cs_value.specs.Spelling.{row_bytes}
 use Rattle.cs_store_tables.proofs.ReadLemmas.{no_record}
-use Rattle.cs_store_tables.proofs.WriteLemmas.{row_put, mapped, on_ok_both, shows_state, written_is, written_keeps}
+use Rattle.cs_store_tables.proofs.WriteLemmas.{put_keeps, row_put, mapped, on_ok_both, shows_state, written_is}
 use Rattle.cs_store_tables.proofs.tables.put_row.Goals as goal
 
 pub returns-clause-put : goal.returns-clause-put
@@ -21,15 +21,9 @@ pub returns-clause-kept : goal.returns-clause-kept
 returns-clause-kept g c sound inside =
     let old = state g.S.Store c.args.conn.now in
     let new = state g.S.Store c.put_record.new.conn in
-    let h = c.put_record.ensures in
     let spelled : c.deref.result.now ≡ row_bytes c.args.row.now = search rules in
-    written_keeps old new c.put_record.result c.args.name.now c.bytes.result.now (Some c.deref.result.now) _ sound inside
-    (λ clean holds set. row_put old.now new.now c.args.name.now c.args.key.now c.args.row.now holds (c.requires.fits clean) (rw (c.bytes.ensures, spelled) at set)) h.survives h.set h.goes_on h.marks h.rests
-
-pub put_record-requires : goal.put_record-requires
-put_record-requires g c = λ new clean records.
-    let it = c.requires.new new clean in
-    rw c.bytes.ensures (no_record (state g.S.Store c.args.conn.now).now c.args.name.now c.args.key.now c.args.row.now it.0 (c.requires.fits clean) it.1)
+    put_keeps old new c.put_record.result c.args.name.now c.args.key.now c.args.row.now c.bytes.result.now c.deref.result.now sound inside c.requires.fits c.bytes.ensures spelled c.put_record.ensures.survives
+    c.put_record.ensures.set c.put_record.ensures.goes_on c.put_record.ensures.marks c.put_record.ensures.rests
 
 pub returns-clause-caused : goal.returns-clause-caused
 returns-clause-caused g c sound inside clean =
@@ -38,8 +32,8 @@ returns-clause-caused g c sound inside clean =
     let spelled : c.deref.result.now ≡ row_bytes c.args.row.now = search rules in
     let was = c.put_record.ensures.was_clean clean in
     caused_write _ old new (puts c.args.is_new c.args.name.now c.args.key.now (row_bytes c.args.row.now)) c.put_record.result c.map_err.result c.map_err.ensures.cases (λ f e it. it.0) (declared old sound was)
-    (apt old.now c.args.is_new c.args.name.now c.args.key.now (row_bytes c.args.row.now) (λ is.
-    let it = c.requires.new is was in no_record old.now c.args.name.now c.args.key.now c.args.row.now it.0 (c.requires.fits was) it.1))
+    (λ e same. apt_for old.now (puts c.args.is_new c.args.name.now c.args.key.now (row_bytes c.args.row.now)) e (apt old.now c.args.is_new c.args.name.now c.args.key.now (row_bytes c.args.row.now) (λ is.
+    let it = c.requires.new is was in no_record old.now c.args.name.now c.args.key.now c.args.row.now it.0 (c.requires.fits was) it.1)))
     (rw (c.bytes.ensures, spelled) at (c.put_record.ensures.failed clean))
 
 pub returns-clause-leads : goal.returns-clause-leads

@@ -27,7 +27,7 @@ returns-clause-caused g c sound inside clean =
     let new = state g.S.Store c.remove_record.new.conn in
     let was = was_clean old new (returns-clause-kept g c sound inside).crash clean in
     caused_write _ old new (removes c.args.name.now c.args.key.now) c.remove_record.result c.map_err.result c.map_err.ensures.cases (λ f e it. it.0)
-    (declared old sound was) tt (rw c.bytes.ensures at (c.remove_record.ensures.failed clean))
+    (declared old sound was) (λ e same. tt) (rw c.bytes.ensures at (c.remove_record.ensures.failed clean))
 
 pub returns-clause-leads : goal.returns-clause-leads
 returns-clause-leads g c sound inside clean =
