@@ -1,6 +1,8 @@
 -- The values of a change where they lie.
-use Rattle.std.proofs.Common.{◌≡◌, ◌≢◌, ℕ, zero, suc, pos, ◌+◌, ◌-◌, ◌<◌, ◌≤◌, List, [], ◌∷◌, ◌++◌, length, length-append, map, drop, get_or, Option, Some, None, refl, sym, ap, subst, ◌∙◌, append_assoc, append-nil, arith}
+use Rattle.std.proofs.Common.{◌≡◌, ◌≢◌, inl, inr, ℕ, zero, suc, pos, ◌+◌, ◌-◌, ◌<◌, ◌≤◌, ◌==◌, true, true≢false, List, [], ◌∷◌, ◌++◌, length, length-append, length-set, map, drop, get_or, get_or-set_other, get_or-set_same, slice_set, Option, Some, None, refl, sym, ap, subst, ◌∙◌, append_assoc, append-nil, arith}
 use Rattle.std.specs.Prelude.{option_map}
+use Rattle.std.proofs.lemmas.Bool.{cases_Bool, eqb-true}
+use Rattle.std.specs.Cmp.{nat_eq_equiv}
 use Rattle.std.proofs.lemmas.List.{drop_more, length-map}
 use Rattle.std.proofs.lemmas.List.Concat.{flat_map-append}
 use Rattle.cs_value.specs.declared.value.OwnedValue.{OwnedValue}
@@ -24,7 +26,8 @@ use Rattle.cs_file_iterator.specs.declared.change.ChangeSpan.{ChangeSpan}
 use Rattle.cs_file_iterator.specs.declared.value.Side.{Side}
 use Rattle.cs_file_iterator.specs.declared.value.Side.TheVariants.{Old, New}
 use Rattle.cs_file_iterator.specs.Changes.{Shows, ShowsTable, TableChange}
-use Rattle.cs_file_iterator.specs.Values.{ShowsField, field_on}
+use Rattle.cs_file_iterator.specs.declared.value.ValueSpan.{ValueSpan}
+use Rattle.cs_file_iterator.specs.Values.{LieWithin, ShowsField, ShowsValue, ShowsValues, field_on, plain_span, value_at}
 use Rattle.cs_file_iterator.specs.Steps.{BeginsRecord, HasRecord, record_on, span_at}
 use Rattle.cs_file_iterator.proofs.PartLemmas.{Stands-length, Stands-part}
 
@@ -182,3 +185,55 @@ field_on-none Old (Update old new) column is = cc
 field_on-none New (Insert row) column is = cc
 field_on-none New (Delete row) column is = refl
 field_on-none New (Update old new) column is = cc
+
+-- ---- the values of several columns
+
+-- no value is shown yet
+pub shows_none : (file : List ℕ) (field : ℕ → Option OwnedField) (spans : List ValueSpan) → ShowsValues file 0 field spans spans
+shows_none file field spans = record { each = λ at none. absurd (omega arith); others = λ at le. refl; size = refl }
+
+-- the value that was put, and the others
+module _ (spans : List ValueSpan) (column : ℕ) (value : ValueSpan) (lt : column < length spans) where
+  put_here : value_at (slice_set spans column value) column ≡ value
+  put_here = get_or-set_same spans column value (plain_span (pos 0) (pos 0)) lt
+
+  put_elsewhere : (at : ℕ) → at ≢ column → value_at (slice_set spans column value) at ≡ value_at spans at
+  put_elsewhere at other = get_or-set_other spans column at value (plain_span (pos 0) (pos 0)) other
+
+  -- what holds of those before it, and of it, holds of one more
+  one_more : (P : ℕ → ValueSpan → Type 0) → ((at : ℕ) → at < column → P at (value_at spans at)) → P column value → (at : ℕ) → at < column + 1 → P at (value_at (slice_set spans column value) at)
+  one_more P before here at below = elim (cases_Bool (at == column)) [
+    | inl is ↦ let same : at ≡ column = eqb-true at column is in subst (λ (i : ℕ). P i (value_at (slice_set spans column value) i)) (sym same) (subst (P column) (sym put_here) here)
+    | inr isnt ↦
+        let other : at ≢ column = λ same. true≢false (sym (subst (λ (i : ℕ). (at == i) ≡ true) same (nat_eq_equiv.refl at)) ∙ isnt) in
+        subst (P at) (sym (put_elsewhere at other)) (before at (omega (arith, other, below)))
+  ]
+
+  pub shows_more : (file : List ℕ) (field : ℕ → Option OwnedField) (old : List ValueSpan) → ShowsValues file column field old spans → ShowsValue file value (field column)
+      → ShowsValues file (column + 1) field old (slice_set spans column value)
+  shows_more file field old shown here = record {
+    each = one_more (λ at v. ShowsValue file v (field at)) shown.each here;
+    others = λ at le. put_elsewhere at (λ same. absurd (omega (arith, same, le))) ∙ shown.others at (omega (arith, le));
+    size = length-set spans column value ∙ shown.size;
+  }
+
+  pub within_more : (file : List ℕ) → LieWithin file column spans → value.offset + value.length ≤ length file → LieWithin file (column + 1) (slice_set spans column value)
+  within_more file before here = one_more (λ at v. v.offset + v.length ≤ length file) before here
+
+-- the fields of a record are what it says of its columns
+pub shows_record : (file : List ℕ) (count : ℕ) (side : Side) (change : Change) (fields : List OwnedField) (old new : List ValueSpan) → record_on side change ≡ Some fields
+    → ShowsValues file count (λ column. Some (get_or fields column Undefined)) old new → ShowsValues file count (field_on side change) old new
+shows_record file count side change fields old new is shown = record {
+  each = λ column lt. subst (ShowsValue file (value_at new column)) (sym (field_on-record side change column fields is)) (shown.each column lt);
+  others = shown.others;
+  size = shown.size;
+}
+
+-- and without a record it says nothing
+pub shows_nothing : (file : List ℕ) (count : ℕ) (side : Side) (change : Change) (old new : List ValueSpan) → record_on side change ≡ None
+    → ShowsValues file count (λ column. None) old new → ShowsValues file count (field_on side change) old new
+shows_nothing file count side change old new is shown = record {
+  each = λ column lt. subst (ShowsValue file (value_at new column)) (sym (field_on-none side change column is)) (shown.each column lt);
+  others = shown.others;
+  size = shown.size;
+}

@@ -1,5 +1,5 @@
 -- Where the values of a change lie in a file; this project's own. The kinds are the numbers of SQLite's types.
-use Rattle.std.specs.Prelude.{◌≡◌, ℕ, ℤ, pos, ◌+◌, List, Option, Some, None, Result, Ok, Err}
+use Rattle.std.specs.Prelude.{◌≡◌, ◌<◌, ◌≤◌, ℕ, ℤ, pos, ◌+◌, List, length, slice_index_or, Option, Some, None, Result, Ok, Err}
 use Rattle.cs_value.specs.declared.value.OwnedValue.TheVariants.{Int, Text, Blob, Null}
 use Rattle.cs_value.specs.declared.value.OwnedField.{OwnedField}
 use Rattle.cs_value.specs.declared.value.OwnedField.TheVariants.{Undefined, Defined}
@@ -38,6 +38,21 @@ ShowsValue file span (Some field) = ShowsField file span field
 abbrev pub field_on : Side → Change → ℕ → Option OwnedField
 field_on Old change column = old_field change column
 field_on New change column = new_field change column
+
+-- the value in a place of some
+abbrev pub value_at : List ValueSpan → ℕ → ValueSpan
+value_at spans at = slice_index_or spans at (plain_span (pos 0) (pos 0))
+
+-- the first spans show what a change says of so many columns, and the others are as they were
+pub record ShowsValues (file : List ℕ) (count : ℕ) (field : ℕ → Option OwnedField) (old new : List ValueSpan) : Type 0 where
+  pub each : (column : ℕ) → column < count → ShowsValue file (value_at new column) (field column)
+  pub others : (at : ℕ) → count ≤ at → value_at new at ≡ value_at old at
+  pub size : length new ≡ length old
+
+-- the first spans lie in the file
+abbrev pub LieWithin : List ℕ → ℕ → List ValueSpan → Type 0
+LieWithin file count spans =
+    (at : ℕ) → at < count → (value_at spans at).offset + (value_at spans at).length ≤ length file
 
 -- a value is returned, and P holds for it
 abbrev pub IsAnswered : Result (Option ValueSpan) ReadFault → (ValueSpan → Type 0) → Type 0

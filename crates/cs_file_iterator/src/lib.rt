@@ -14,7 +14,7 @@
 //! A file is no changeset if a table or a key is twice in it. The iterator does not notice that: a caller that has to
 //! know checks the file first, as `cs_file_scan` does.
 //!
-//! `change` has the step from one change to the next, `value` the value of a column of a change, and `count` a loop
+//! `change` has the step from one change to the next, `value` the values of a change, and `count` a loop
 //! over all changes. `CALLING.md`, next to this folder, shows how to call them.
 #![tactic(auto)]
 
@@ -24,4 +24,4 @@ mod value;
 
 pub use change::{ChangeSpan, next_change};
 pub use count::count_changes;
-pub use value::{Side, ValueSpan, change_value};
+pub use value::{Side, ValueSpan, change_value, change_values};

@@ -1,18 +1,19 @@
 //! The values of a change.
-ghost use Rattle.std.specs.Prelude.{◌≡◌, ◌≢◌, ◌↔◌, ◌<◌, ◌≤◌, ◌+◌, ◌++◌, ℕ, pos, IfOk, IfSome, IsOkAnd, IsTrue, List, None, Ok, Some, drop, length};
+ghost use Rattle.std.specs.Prelude.{◌≡◌, ◌≢◌, ◌↔◌, ◌<◌, ◌≤◌, ◌+◌, ◌++◌, ℕ, pos, IfOk, IfSome, IsOkAnd, IsTrue, List, None, Ok, OnOk, Some, drop, false, get_or, length, true};
+ghost use Rattle.cs_value.specs.declared.value.OwnedField.TheVariants.{Undefined as UndefinedField};
 ghost use Rattle.cs_value.specs.declared.value.OwnedField.{OwnedField};
 ghost use Rattle.cs_value.specs.Spelling.{field_bytes, record_bytes};
 ghost use Rattle.cs_value.specs.Value.{IsField, IsRecord, field_of};
 ghost use Rattle.cs_wire_entries.specs.ReadFaults.{Stands};
 ghost use Rattle.cs_wire_entries.specs.Items.{new_record};
 ghost use Rattle.cs_file_iterator.specs.Changes.{Shows, TableChange};
-ghost use Rattle.cs_file_iterator.specs.Values.{IsAnswered, ShowsField, ShowsValue, field_on};
+ghost use Rattle.cs_file_iterator.specs.Values.{IsAnswered, LieWithin, ShowsField, ShowsValue, ShowsValues, field_on};
 ghost use Rattle.cs_file_iterator.specs.Steps.{HasRecord, content_span, record_on, span_at};
 
 use crate::change::ChangeSpan;
 use cs_value::{Field, Value, field_read};
-use cs_wire::ReadFault;
-use cs_wire_entries::{fault_behind, rest_from};
+use cs_wire::{ReadFault, ReadFaultKind};
+use cs_wire_entries::{fault_at, fault_behind, rest_from};
 
 /// A side of a change.
 #[derive(Clone, Copy, Debug, PartialEq, Eq)]
@@ -81,6 +82,76 @@ pub fn change_value(
     };
     let place = skip_fields(file, record, column)?;
     Ok(Some(read_value(file, place)?))
+}
+
+/// Puts what a change of a file says of each column on one side into the front of the spans, in one pass over the
+/// change. Returns whether it does: nothing changes where there are fewer spans than columns. The fields are undefined
+/// if the change has no record on that side.
+///
+/// `change` is as [`next_change`](crate::next_change) returned it for the file. A call takes time in proportion to the
+/// bytes of the change and its columns, and allocates nothing.
+///
+/// # Errors
+///
+/// The fault at which reading stops. A changeset's file has none.
+pub fn change_values(
+    file: &[u8],
+    change: &ChangeSpan,
+    side: Side,
+    spans: &mut [ValueSpan],
+) -> Result<bool, ReadFault>
+    ensures values { (shown : TableChange) → Shows file.now change.now shown
+        → length shown.header.flags ≤ length spans.old → IsOkAnd result (λ filled. IsTrue filled
+        × ShowsValues file.now (length shown.header.flags) (field_on side shown.entry.change) spans.old spans.new) }
+    ensures few { (result ≡ Ok false) ↔ (length spans.old < change.now.columns) }
+    ensures same { result ≡ Ok false → spans.new ≡ spans.old }
+    ensures within { result ≡ Ok true → LieWithin file.now change.now.columns spans.new }
+{
+    if spans.len() < change.columns {
+        return Ok(false);
+    }
+    if change.records > file.len() {
+        return Err(fault_at(ReadFaultKind::Truncated, file.len()));
+    }
+    match find_record(file, change, side)? {
+        Some(record) => read_values(file, record, change.columns, spans)?,
+        None => clear_values(change.columns, spans),
+    }
+    Ok(true)
+}
+
+/// Puts the values of so many fields at an offset into the front of the spans.
+fn read_values(
+    file: &[u8],
+    start: usize,
+    count: usize,
+    spans: &mut [ValueSpan],
+) -> Result<(), ReadFault>
+    requires start { start ≤ length file.now }
+    requires room { count ≤ length spans.old }
+    ensures values { (fields : List OwnedField) (rest : List ℕ) → IsRecord fields → count ≤ length fields
+        → drop start file.now ≡ record_bytes fields ++ rest → (result ≡ Ok tt) × ShowsValues file.now count
+        (λ column. Some (get_or fields column UndefinedField)) spans.old spans.new }
+    ensures within { OnOk result (LieWithin file.now count spans.new) }
+{
+    let mut place = start;
+    for column in 0..count {
+        let (value, end) = next_value(file, place)?;
+        spans[column] = value;
+        place = end;
+    }
+    Ok(())
+}
+
+/// Makes so many values at the front of the spans undefined.
+fn clear_values(count: usize, spans: &mut [ValueSpan])
+    requires { count ≤ length spans.old }
+    ensures values { (file : List ℕ) → ShowsValues file count (λ _. None) spans.old spans.new }
+    ensures within { (file : List ℕ) → LieWithin file count spans.new }
+{
+    for column in 0..count {
+        spans[column] = UNDEFINED;
+    }
 }
 
 /// Returns the offset of the record of a change on one side, or None if it has none.
@@ -165,8 +236,20 @@ fn read_value(file: &[u8], place: usize) -> Result<ValueSpan, ReadFault>
         → IsOkAnd result (λ value. ShowsField file.now value field) }
     ensures within { IfOk result (λ value. value.offset + value.length ≤ length file.now) }
 {
+    let (value, _) = next_value(file, place)?;
+    Ok(value)
+}
+
+/// Returns the value at an offset, and the offset after it.
+#[inline(always)]
+fn next_value(file: &[u8], place: usize) -> Result<(ValueSpan, usize), ReadFault>
+    requires { place ≤ length file.now }
+    ensures value { (field : OwnedField) (rest : List ℕ) → IsField field → drop place file.now ≡ field_bytes field ++ rest
+        → IsOkAnd result (λ r. ShowsField file.now r.0 field × (drop r.1 file.now ≡ rest)) }
+    ensures within { IfOk result (λ r. (r.0.offset + r.0.length ≤ length file.now) × (r.1 ≤ length file.now)) }
+{
     let (field, end) = read_field(file, place)?;
-    Ok(span_of(field, end))
+    Ok((span_of(field, end), end))
 }
 
 /// Returns the field at an offset, and the offset after it.

@@ -8,14 +8,14 @@ ghost use Rattle.cs_wire_entries.specs.ReadFaults.{HasEntry, Stands};
 ghost use Rattle.cs_files.specs.declared.fault.FileFault.TheVariants.{First};
 ghost use Rattle.cs_file_iterator.specs.Changes.{ChangesLeft, IsStep, LiesIn, Shows, TableChange};
 ghost use Rattle.cs_file_iterator.specs.Readable.{AreAll, IsUnreadable, ReadsOn, WereRead};
-ghost use Rattle.cs_file_iterator.specs.Values.{ShowsValue};
+ghost use Rattle.cs_file_iterator.specs.Values.{LieWithin, ShowsValue, ShowsValues};
 ghost use Rattle.vollikash.specs.Answers.{no_fault, report_of};
 ghost use Rattle.vollikash.specs.Iterating.{IsStepCode, TellsFault, side_number};
 ghost use Rattle.cs_file_iterator.specs.declared.value.Side.{Side as SideData};
 ghost use Rattle.cs_file_iterator.specs.Values.{field_on};
 
-use crate::answer::{DONE, FaultReport, OK, RANGE, report, report_plain};
-use cs_file_iterator::{ChangeSpan, Side, ValueSpan, change_value, next_change};
+use crate::answer::{DONE, FaultReport, NO_ROOM, OK, RANGE, report, report_plain};
+use cs_file_iterator::{ChangeSpan, Side, ValueSpan, change_value, change_values, next_change};
 use cs_files::first_fault;
 use cs_value::Fault;
 use cs_wire_entries::ReadError;
@@ -109,6 +109,38 @@ pub extern "C" fn vollikash_value(
             OK
         }
         Ok(None) => RANGE,
+        Err(fault) => i32::from(fault.code()),
+    }
+}
+
+/// Puts what a change says of each column on one side into the front of `values`, in one pass over the change: where
+/// each value lies in the file, or the integer.
+///
+/// `change` and `side` are as for [`vollikash_value`]. It answers `OK`, or `NO_ROOM` if there are fewer `values` than
+/// columns, or `RANGE` if there is no such side; then all are unchanged. Or it answers the number of what is wrong with
+/// the file. It allocates nothing.
+#[unsafe(no_mangle)]
+pub extern "C" fn vollikash_values(
+    file: &[u8],
+    change: &ChangeSpan,
+    side: i32,
+    values: &mut [ValueSpan],
+) -> i32
+    ensures values { (side_is : SideData) (shown : TableChange) → side ≡ side_number side_is → Shows file.now change.now shown
+        → length shown.header.flags ≤ length values.old → (result ≡ OK) × ShowsValues file.now
+        (length shown.header.flags) (field_on side_is shown.entry.change) values.old values.new }
+    ensures few { (side_is : SideData) → side ≡ side_number side_is → length values.old < change.now.columns
+        → (result ≡ NO_ROOM) × (values.new ≡ values.old) }
+    ensures no_side { ((side_is : SideData) → side ≢ side_number side_is)
+        → (result ≡ RANGE) × (values.new ≡ values.old) }
+    ensures within { result ≡ OK → LieWithin file.now change.now.columns values.new }
+{
+    let Some(side) = side_of(side) else {
+        return RANGE;
+    };
+    match change_values(file, change, side, values) {
+        Ok(true) => OK,
+        Ok(false) => NO_ROOM,
         Err(fault) => i32::from(fault.code()),
     }
 }

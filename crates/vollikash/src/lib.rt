@@ -23,7 +23,7 @@ pub use answer::{DONE, FaultReport, NO_ROOM, OK, RANGE};
 use answer::{hand_out, report, report_plain};
 use cs_file_scan::Tables;
 use cs_files::{concat_bytes, dump_file, first_fault, invert_bytes, number_keys_bytes, sql_file};
-pub use iterator::{vollikash_next, vollikash_value};
+pub use iterator::{vollikash_next, vollikash_value, vollikash_values};
 pub use many::{vollikash_concat_many, vollikash_select};
 pub use message::vollikash_message;
 use std::alloc::Global;
