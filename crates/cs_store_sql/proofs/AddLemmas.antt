@@ -1,5 +1,5 @@
 -- What the INSERT of a record does that is refused where the record is there.
-use Rattle.std.proofs.Common.{◌≡◌, ℕ, List, [], ◌∷◌, map, drop, Bool, true, false, Option, Some, Ok, refl, sym, ap, subst, ◌∙◌}
+use Rattle.std.proofs.Common.{◌≡◌, ℕ, List, [], ◌∷◌, map, drop, true, Option, Some, Ok, refl, sym, ap, subst, ◌∙◌}
 use Rattle.sqlite_value.specs.declared.value.Value.TheVariants.{Text, Blob}
 use Rattle.sqlite_value.specs.Order.{Row}
 use Rattle.sqlite_trees.specs.Tree.{Trees}
@@ -15,9 +15,10 @@ use Rattle.sqlite.specs.State.{State, mode_of, Executes}
 use Rattle.cs_store_sql.specs.Records.{records_table, records_tree, DeclaresRecords, HoldsRecords, Sets}
 use Rattle.cs_store_sql.proofs.RowLemmas.{under_from}
 use Rattle.cs_store_sql.proofs.EditLemmas.{Edits, puts_one, edit_sets}
+use Rattle.cs_store_sql.specs.Failing as statement
 use Rattle.cs_store_sql.specs.Statements.{put_text, put_command, source}
-use Rattle.cs_store_sql.proofs.PutLemmas.{put_writes}
-use Rattle.cs_store_sql.proofs.SetLemmas.{record_at, numbered_record, task, sets}
+use Rattle.cs_store_sql.proofs.WriteLemmas.{writes}
+use Rattle.cs_store_sql.proofs.SetLemmas.{record_at, numbered_record, task}
 use Rattle.cs_store_sql.proofs.StatementLemmas.{on_table, one_edit, went, same_value}
 
 -- the row that is put in
@@ -47,15 +48,9 @@ adds old new tab key value count holds h =
     let params = Text tab ∷ Blob key ∷ Blob value ∷ [] in
     let schema = old.now.schema in
     let index = holds.declares.index in
-    let w = put_writes true old new params count holds.declares h in
+    let w = writes (statement.puts true tab key value) old new count holds.declares h in
     let done = went (on_table old new w.tally params index (records_table (records_tree schema)) (put_command index (records_tree schema) true) holds.declares.table w.changed) in
     let now = ap (λ (p : Tally × Database). p.1) (same_value (went (went done.2).2).2) in
     let put = puts_in old.step_limit (mode_of old).keys schema holds.declares tab key value old.now.trees done.0 done.1 in
     edit_sets old.now new.now tab key (Some value) holds (ap (λ (d : Database). d.schema) now) w.sound w.frozen
     (subst (Edits schema (records_tree schema) old.now.trees tab key (Some value)) (sym (ap (λ (d : Database). d.trees) now)) put)
-
--- and so does each of the texts that put a record
-pub puts : (is_new : Bool) (old new : State) (tab key value : List ℕ) (count : ℕ) → HoldsRecords old.now → Executes (put_text is_new) (Text tab ∷ Blob key ∷ Blob value ∷ []) old new (Ok count)
-    → Sets old.now new.now tab key (Some value)
-puts true = adds
-puts false = sets
