@@ -1,7 +1,7 @@
 -- For which causes a call on a store fails.
-use Rattle.std.proofs.Common.{◌≡◌, inl, inr, ℕ, [], false, Result, Ok, Err, IfErr, OnOk, sym, subst, MatchResult, IsErrAnd, IsTrue, refl, List, None, true, true≢false, ◌∙◌, Bool}
-use Rattle.cs_store_tables.specs.Failing.{IsMade, LeadsOn, WriteFails, BatchFails, IsDeclarationOf, IsCauseOf, ReadFails, IsApt, PutFails, RemoveFails, Writes}
-use Rattle.cs_store_sql.specs.Failing.{Statement, CannotWrite, FailsAt, IsFailure, CannotRead, puts, EndsAs, LeadsTo, itself, by_each, removes}
+use Rattle.std.proofs.Common.{◌≡◌, inl, inr, ℕ, [], false, Result, Ok, Err, IfErr, OnOk, sym, subst, MatchResult, IsErrAnd, IsTrue, refl, List, true, true≢false, ◌∙◌}
+use Rattle.cs_store_tables.specs.Failing.{IsMade, LeadsOn, WriteFails, BatchFails, IsDeclarationOf, IsCauseOf, ReadFails, IsApt, IsStatementOf, PutFails, RemoveFails, Writes}
+use Rattle.cs_store_sql.specs.Failing.{Statement, CannotWrite, FailsAt, IsFailure, CannotRead, puts, EndsAs, LeadsTo, itself, by_each, put_at, remove_at}
 use Rattle.cs_store_sql.proofs.WriteFailures.{write_fails}
 use Rattle.sqlite.specs.Effect.{Database as Shown}
 use Rattle.sqlite.specs.State.{State, HasCleanDisk, IsUnchanged}
@@ -11,7 +11,9 @@ use Rattle.cs_rows.specs.declared.fault.StoreError.{StoreError}
 use Rattle.cs_rows.specs.Faults.{IsCaused, IsReadRefusal, is_answered}
 use Rattle.cs_store_sql.specs.declared.fault.RecordsError.{RecordsError}
 use Rattle.cs_store_sql.specs.declared.fault.RecordsError.TheVariants.{NoMemory, Database}
-use Rattle.cs_store_sql.specs.Records.{DeclaresRecords, HoldsRecords, KeepsCrash, records_in, GoesOn}
+use Rattle.cs_store_sql.specs.declared.records.Place.{Place}
+use Rattle.cs_store_sql.specs.declared.records.Place.TheVariants as places
+use Rattle.cs_store_sql.specs.Records.{DeclaresRecords, HoldsRecords, IsPlaced, KeepsCrash, GoesOn}
 use Rattle.cs_value.specs.declared.value.OwnedValue.{OwnedValue}
 use Rattle.cs_value.specs.Spelling.{row_bytes}
 use Rattle.cs_store_encoding.specs.Declaration.{declaration_bytes}
@@ -64,10 +66,27 @@ pub read_caused : (old new : State) (f : RecordsError) → IsSound old → Keeps
     → IsCaused (ReadFails old new) (refusal_of f)
 read_caused old new f sound crash clean fails = caused (CannotRead old new) f (fails (λ is. ((sound (was_clean old new crash clean)).now is).records))
 
--- a record that is new is put as one
-pub apt : (db : Shown) (is_new : Bool) (tab key value : List ℕ) → (IsTrue is_new → records_in db tab key ≡ None) → IsApt db (puts is_new tab key value)
-apt db true tab key value new = new refl
-apt db false tab key value new = tt
+-- where the row of a record is at that place, it is put and removed by statements that a store makes
+pub apt_put : (db : Shown) (place : Place) (tab key value : List ℕ) → IsPlaced db tab key place → IsApt db (put_at place tab key value)
+apt_put db places.Unknown tab key value placed = tt
+apt_put db places.Free tab key value placed = placed
+apt_put db (places.At number) tab key value placed = placed
+
+pub apt_removal : (db : Shown) (place : Place) (tab key : List ℕ) → IsPlaced db tab key place → IsApt db (remove_at place tab key)
+apt_removal db places.Unknown tab key placed = tt
+apt_removal db places.Free tab key placed = tt
+apt_removal db (places.At number) tab key placed = placed
+
+-- they write the record of that write to rows
+is_put : (place : Place) (name key : List ℕ) (row : List OwnedValue) → IsStatementOf (puts_row name key row) (put_at place name key (row_bytes row))
+is_put places.Unknown name key row = (refl, refl, refl)
+is_put places.Free name key row = (refl, refl, refl)
+is_put (places.At number) name key row = (refl, refl, refl)
+
+is_removal : (place : Place) (name key : List ℕ) → IsStatementOf (removes_row name key) (remove_at place name key)
+is_removal places.Unknown name key = (refl, refl)
+is_removal places.Free name key = (refl, refl)
+is_removal (places.At number) name key = (refl, refl)
 
 -- ---- of a batch
 
@@ -75,15 +94,15 @@ apt db false tab key value new = tt
 pub put_fails : (old new : State) (name key : List ℕ) (row : List OwnedValue) (why : Cause) → PutFails old new name key row why
     → BatchFails (Writes (λ held write. (held ≡ tables_in old.now) × (write ≡ puts_row name key row))) old new why
 put_fails old new name key row why (inl outside) = inl outside
-put_fails old new name key row why (inr (is_new, (apt, (e, other, inl failed, is)))) = inr (e, other, inl (inl failed), is)
-put_fails old new name key row why (inr (is_new, (apt, (e, other, inr refused, is)))) = inr (
+put_fails old new name key row why (inr (place, (apt, (e, other, inl failed, is)))) = inr (e, other, inl (inl failed), is)
+put_fails old new name key row why (inr (place, (apt, (e, other, inr refused, is)))) = inr (
   e,
   other,
   inr (record {
     at = old.now;
     leads = itself;
-    statement = puts is_new name key (row_bytes row);
-    is = ((puts_row name key row, (refl, refl, refl), (refl, refl)), apt);
+    statement = put_at place name key (row_bytes row);
+    is = ((puts_row name key row, is_put place name key row, (refl, refl)), apt);
     refused = refused;
   }),
   is,
@@ -92,15 +111,15 @@ put_fails old new name key row why (inr (is_new, (apt, (e, other, inr refused, i
 pub remove_fails : (old new : State) (name key : List ℕ) (why : Cause) → RemoveFails old new name key why
     → BatchFails (Writes (λ held write. (held ≡ tables_in old.now) × (write ≡ removes_row name key))) old new why
 remove_fails old new name key why (inl outside) = inl outside
-remove_fails old new name key why (inr (apt, (e, other, inl failed, is))) = inr (e, other, inl (inl failed), is)
-remove_fails old new name key why (inr (apt, (e, other, inr refused, is))) = inr (
+remove_fails old new name key why (inr (place, (apt, (e, other, inl failed, is)))) = inr (e, other, inl (inl failed), is)
+remove_fails old new name key why (inr (place, (apt, (e, other, inr refused, is)))) = inr (
   e,
   other,
   inr (record {
     at = old.now;
     leads = itself;
-    statement = removes name key;
-    is = ((removes_row name key, (refl, refl), (refl, refl)), apt);
+    statement = remove_at place name key;
+    is = ((removes_row name key, is_removal place name key, (refl, refl)), apt);
     refused = refused;
   }),
   is,
@@ -139,15 +158,15 @@ pub write_leads : (Is : tables.State → Statement → Type 0) (old new : State)
 write_leads Is old new statement is ends on = record { inside = λ was. on.mode; leads = by_each old.now new.now statement ends.0 itself is ends.1 }
 
 -- a row is put, or removed
-pub put_leads : (old new : State) (is_new : Bool) (name key : List ℕ) (row : List OwnedValue) → LeadsOn (λ held statement. (held ≡ tables_in old.now) × (statement ≡ puts is_new name key (row_bytes row))) old new
+pub put_leads : (old new : State) (place : Place) (name key : List ℕ) (row : List OwnedValue) → LeadsOn (λ held statement. (held ≡ tables_in old.now) × (statement ≡ put_at place name key (row_bytes row))) old new
     → LeadsOn (Writes (λ held write. (held ≡ tables_in old.now) × (write ≡ puts_row name key row))) old new
-put_leads old new is_new name key row = leads_so _ _ (λ held statement is.
-    subst (λ (s : Statement). Writes (λ held write. (held ≡ tables_in old.now) × (write ≡ puts_row name key row)) held s) (sym is.1) (puts_row name key row, (refl, refl, refl), (is.0, refl)))
+put_leads old new place name key row = leads_so _ _ (λ held statement is.
+    subst (λ (s : Statement). Writes (λ held write. (held ≡ tables_in old.now) × (write ≡ puts_row name key row)) held s) (sym is.1) (puts_row name key row, is_put place name key row, (is.0, refl)))
 
-pub remove_leads : (old new : State) (name key : List ℕ) → LeadsOn (λ held statement. (held ≡ tables_in old.now) × (statement ≡ removes name key)) old new
+pub remove_leads : (old new : State) (place : Place) (name key : List ℕ) → LeadsOn (λ held statement. (held ≡ tables_in old.now) × (statement ≡ remove_at place name key)) old new
     → LeadsOn (Writes (λ held write. (held ≡ tables_in old.now) × (write ≡ removes_row name key))) old new
-remove_leads old new name key = leads_so _ _ (λ held statement is.
-    subst (λ (s : Statement). Writes (λ held write. (held ≡ tables_in old.now) × (write ≡ removes_row name key)) held s) (sym is.1) (removes_row name key, (refl, refl), (is.0, refl)))
+remove_leads old new place name key = leads_so _ _ (λ held statement is.
+    subst (λ (s : Statement). Writes (λ held write. (held ≡ tables_in old.now) × (write ≡ removes_row name key)) held s) (sym is.1) (removes_row name key, is_removal place name key, (is.0, refl)))
 
 pub on_ok : {X E : Type 0} (r : Result X E) (P : Type 0) → P → OnOk r P
 on_ok (Ok x) P p = p

@@ -4,7 +4,6 @@ use Rattle.std.specs.Option.{option_map}
 use Rattle.std.proofs.lemmas.Bool.{eqb-true}
 use Rattle.std.specs.FinMap as map
 use Rattle.cs_value.specs.declared.value.OwnedValue.{OwnedValue}
-use Rattle.cs_value.specs.Spelling.{row_bytes}
 use Rattle.cs_value.specs.State as tables
 use Rattle.cs_value.proofs.StateLemmas.{row_at_fits}
 use Rattle.sqlite.specs.Effect.{Database}
@@ -17,7 +16,7 @@ use Rattle.cs_store_tables.specs.Store.{HoldsState, IsSound, Recovers, tables_in
 use Rattle.cs_store_encoding.specs.Stored.{state_of, table_in}
 use Rattle.cs_rows.specs.Rows.{Fits, IsRowIn}
 use Rattle.cs_rows.proofs.MemoryLemmas.{row_at_found, row_at_absent, rows_at_absent}
-use Rattle.cs_store_encoding.proofs.StoredLemmas.{declaration_stored, row_stored}
+use Rattle.cs_store_encoding.proofs.StoredLemmas.{declaration_stored}
 use Rattle.cs_store_encoding.proofs.StateOf.{get_unread}
 use Rattle.cs_store_tables.specs.Laws.{was_clean}
 
@@ -89,12 +88,6 @@ row_is state name key schema is has = at (tables.row_at state name key) (row_at_
 -- a table that has a schema has a name
 pub declared_named : (db : Database) (name : List ℕ) (schema : tables.SchemaData) → tables.schema_at (tables_in db) name ≡ Some schema → name ≢ []
 declared_named db name schema has e = absurd (let k = sym has ∙ ap (tables.schema_at (tables_in db)) e ∙ unnamed db in cc)
-
--- there is no record without a row
-pub no_record : (db : Database) (name key : List ℕ) (row : List OwnedValue) → HoldsState db → Fits (tables_in db) name key row → tables.row_at (tables_in db) name key ≡ None → records_in db name key ≡ None
-no_record db name key row holds fits none =
-    let has = ap (option_map (λ (t : tables.TableData). t.schema)) fits.found in
-    row_stored (records_in db) (tables_in db) name key holds.stores (declared_named db name fits.table.schema has) ∙ ap (option_map row_bytes) none
 
 -- a table that is not there has no row
 pub no_row : (state : tables.State) (name key : List ℕ) → tables.schema_at state name ≡ None → tables.row_at state name key ≡ None
