@@ -5,19 +5,23 @@
 #include "calls.h"
 #include "vollikash.h"
 
+/* As many columns as SQLite's default limit allows. */
+enum { COLUMNS = 2000 };
+
 /* Goes over all changes of a file and their values. */
 static int pass(const struct bytes *file)
 {
+    static struct vollikash_field values[COLUMNS];
     struct vollikash_change change;
     struct vollikash_fault fault;
-    struct vollikash_field value;
     size_t place = 0;
     int code;
     while ((code = vollikash_next(file->at, file->count, &place, &change, &fault)) == 0) {
         for (int side = VOLLIKASH_OLD; side <= VOLLIKASH_NEW; side++) {
+            vollikash_values(file->at, file->count, &change, side, values, COLUMNS);
             for (size_t column = 0; column < change.columns; column++) {
-                vollikash_value(file->at, file->count, &change, side, column, &value);
-                sum += value.kind + value.integer + (long long)value.length;
+                const struct vollikash_field *value = &values[column];
+                sum += value->kind + value->integer + (long long)value->length;
             }
         }
     }

@@ -100,10 +100,35 @@ static void add_hex(struct text *text, const char *before, const uint8_t *bytes,
     }
 }
 
+/* Checks that one call returns the values of a change on one side that a call for each does. */
+static void check_values(struct bytes file, const struct vollikash_change *change, int side)
+{
+    size_t columns = change->columns, size = (columns + 1) * sizeof(struct vollikash_field);
+    struct vollikash_field *values = malloc(size), *before = malloc(size), value;
+    require(values != NULL && before != NULL, "out of memory");
+    memset(values, UNTOUCHED, size);
+    memset(before, UNTOUCHED, size);
+    require(columns == 0 || vollikash_values(file.at, file.count, change, side, values, columns - 1) == VOLLIKASH_NO_ROOM,
+            "the values have too little room");
+    require(vollikash_values(file.at, file.count, change, 2, values, columns + 1) == VOLLIKASH_RANGE, "there is a third side");
+    require(memcmp(values, before, size) == 0, "a value was touched");
+    require(vollikash_values(file.at, file.count, change, side, values, columns + 1) == VOLLIKASH_OK, "a change has no values");
+    for (size_t column = 0; column < columns; column++) {
+        vollikash_value(file.at, file.count, change, side, column, &value);
+        require(values[column].kind == value.kind && values[column].integer == value.integer &&
+                    values[column].offset == value.offset && values[column].length == value.length,
+                "a value differs from the one alone");
+    }
+    require(memcmp(&values[columns], before, sizeof value) == 0, "a value behind the last was touched");
+    free(values);
+    free(before);
+}
+
 /* The values of a change on one side, and a check that there is no further one. */
 static void add_side(struct text *text, struct bytes file, const struct vollikash_change *change, int side)
 {
     struct vollikash_field value, before;
+    check_values(file, change, side);
     memset(&value, UNTOUCHED, sizeof value);
     before = value;
     require(vollikash_value(file.at, file.count, change, side, change->columns, &value) == VOLLIKASH_RANGE,

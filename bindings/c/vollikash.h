@@ -25,8 +25,8 @@
 **
 ** The caller owns every buffer and every struct. A call allocates at most some twenty
 ** times the bytes of its files and three kilobytes, which bindings/c/memory.c measures,
-** and frees all of it before it returns. vollikash_next, vollikash_value and
-** vollikash_message allocate nothing. A text is made in memory first, and grows with the
+** and frees all of it before it returns. vollikash_next, vollikash_value,
+** vollikash_values and vollikash_message allocate nothing. A text is made in memory first, and grows with the
 ** length of a table's name times the number of its changes. A call keeps no state, so
 ** several threads can call at once.
 */
@@ -225,6 +225,15 @@ enum { VOLLIKASH_OLD = 0, VOLLIKASH_NEW = 1 };
 */
 int vollikash_value(const uint8_t *file, size_t length, const struct vollikash_change *change, int side,
                     size_t column, struct vollikash_field *value) VOLLIKASH_NONNULL;
+
+/*
+** Fills in what a change has in each column on one side, in the order of the columns, in one
+** pass over the change. `values` has room for `count` of them: change->columns at least.
+** Otherwise it is as vollikash_value. Returns OK, or NO_ROOM if there are more columns, or
+** RANGE if there is no such side; then `values` is unchanged.
+*/
+int vollikash_values(const uint8_t *file, size_t length, const struct vollikash_change *change, int side,
+                     struct vollikash_field *values, size_t count) VOLLIKASH_NONNULL;
 
 /* The bytes of a text or a blob, of which there are `length`. No zero byte is after them. */
 static inline const uint8_t *vollikash_bytes(const uint8_t *file, const struct vollikash_field *value)

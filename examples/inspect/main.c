@@ -11,6 +11,9 @@
 
 #include "vollikash.h"
 
+/* The columns of the table, and more. */
+enum { COLUMNS = 16 };
+
 /* Ends the program if a call of SQLite fails. */
 static void expect(int code, sqlite3 *db)
 {
@@ -69,11 +72,12 @@ static void print_value(const uint8_t *file, const struct vollikash_field *value
 
 static void print_side(const uint8_t *file, size_t length, const struct vollikash_change *change, int side)
 {
+    struct vollikash_field values[COLUMNS];
+    if (vollikash_values(file, length, change, side, values, COLUMNS) != VOLLIKASH_OK) {
+        return;
+    }
     for (size_t column = 0; column < change->columns; column++) {
-        struct vollikash_field value;
-        if (vollikash_value(file, length, change, side, column, &value) == VOLLIKASH_OK) {
-            print_value(file, &value);
-        }
+        print_value(file, &values[column]);
     }
 }
 

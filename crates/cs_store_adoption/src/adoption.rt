@@ -16,8 +16,8 @@ ghost use Rattle.cs_store_tables.specs.Store.{Adopts, HoldsNone, HoldsTables, Is
 use cs_rows::{Cause, StoreError};
 use cs_store_encoding::{VERSION, Version, read_schemas, read_version};
 use cs_store_sql::{
-    Declaration, Keyed, RecordTest, all_pass, declaration_of, list_records, make_table, put_record,
-    transactions,
+    Declaration, Keyed, Place, RecordTest, all_pass, declaration_of, list_records, make_table,
+    put_record, transactions,
 };
 use cs_store_tables::{commit, refused};
 use sqlite::{Alter, Connection};
@@ -111,7 +111,7 @@ fn write_version<S: Alter>(conn: &mut Connection<S>) -> Result<(), StoreError>
         → OnErr result (KeepsCommit (state S.Store conn.old) (state S.Store conn.new)) }
     ensures survives { KeepsCrash (state S.Store conn.old) (state S.Store conn.new) }
 {
-    match put_record(conn, "", b"", VERSION, false) {
+    match put_record(conn, "", b"", VERSION, Place::Unknown) {
         Ok(()) => Ok(()),
         Err(error) => Err(refused(error)),
     }

@@ -1,5 +1,5 @@
 -- What the INSERT of a record does that is refused where the record is there.
-use Rattle.std.proofs.Common.{◌≡◌, ◌≢◌, inl, ℕ, List, [], ◌∷◌, map, drop, Bool, true, false, Option, Some, None, Ok, IsTrue, refl, sym, ap, subst, ◌∙◌}
+use Rattle.std.proofs.Common.{◌≡◌, ◌≢◌, inl, ℕ, List, [], ◌∷◌, map, drop, true, Option, Some, None, Ok, refl, sym, ap, subst, ◌∙◌}
 use Rattle.std.specs.List.{AllByRecursion}
 use Rattle.std.proofs.lemmas.Bool.{and_parts, false_from_ne_true, not-true}
 use Rattle.sqlite_value.specs.declared.value.Value.TheVariants.{Text, Blob}
@@ -21,8 +21,9 @@ use Rattle.cs_store_sql.specs.Records.{content, is_under, record_rows, records_i
 use Rattle.cs_store_sql.proofs.RowLemmas.{one_record, records_in_is, under_from, under_is}
 use Rattle.cs_store_sql.proofs.EditLemmas.{not_taken, puts_one, edit_sets}
 use Rattle.cs_store_sql.specs.Statements.{put_text, put_command, source}
-use Rattle.cs_store_sql.proofs.PutLemmas.{put_writes}
-use Rattle.cs_store_sql.proofs.SetLemmas.{record_at, numbered_record, task, sets}
+use Rattle.cs_store_sql.specs.Failing as statement
+use Rattle.cs_store_sql.proofs.WriteLemmas.{writes}
+use Rattle.cs_store_sql.proofs.SetLemmas.{record_at, numbered_record, task}
 use Rattle.cs_store_sql.proofs.StatementLemmas.{on_table, one_edit, went, same_value}
 
 -- a row of the record is put in, whose number is free
@@ -70,7 +71,7 @@ module _ (old new : State) (tab key value : List ℕ) (count : ℕ) (holds : Hol
   makes =
       let params = Text tab ∷ Blob key ∷ Blob value ∷ [] in
       let index = holds.declares.index in
-      let w = put_writes true old new params count holds.declares h in
+      let w = writes (statement.puts true tab key value) old new count holds.declares h in
       let done = went (on_table old new w.tally params index (records_table (records_tree schema)) (put_command index (records_tree schema) true) holds.declares.table w.changed) in
       let now = ap (λ (p : Tally × Database). p.1) (same_value (went (went done.2).2).2) in
       let put = puts_in old.step_limit (mode_of old).keys schema holds.declares tab key value old.now.trees done.0 done.1 in
@@ -79,7 +80,7 @@ module _ (old new : State) (tab key value : List ℕ) (count : ℕ) (holds : Hol
   -- it sets the record under the name and the key
   pub adds : Sets old.now new.now tab key (Some value)
   adds =
-      let w = put_writes true old new _ count holds.declares h in
+      let w = writes (statement.puts true tab key value) old new count holds.declares h in
       let put = makes.1 in
       edit_sets old.now new.now tab key (Some value) holds makes.0 w.sound w.frozen
       (puts_one schema (records_tree schema) old.now.trees new.now.trees tab key value put.new put.under put.content_is put.keyed put.fresh put.rows put.spares)
@@ -97,15 +98,3 @@ module _ (old new : State) (tab key value : List ℕ) (count : ℕ) (holds : Hol
       let b = under_is tab key put.new put.under in
       let one : row ≡ put.new = one_record new.now row put.new next kept there (record { tab = a.0 ∙ sym b.0; key = a.1 ∙ sym b.1 }) in
       all_has (λ r. rowid r ≢ rowid put.new) (record_rows old.now) row (not_taken (record_rows old.now) put.new (not-true _ (and_parts _ _ put.fresh).0)) has (ap rowid one)))
-
--- and so does each of the texts that put a record
-pub puts : (is_new : Bool) (old new : State) (tab key value : List ℕ) (count : ℕ) → HoldsRecords old.now → Executes (put_text is_new) (Text tab ∷ Blob key ∷ Blob value ∷ []) old new (Ok count)
-    → Sets old.now new.now tab key (Some value)
-puts true old new tab key value count holds h = adds old new tab key value count holds h
-puts false old new tab key value count holds h = sets old new tab key value count holds h
-
--- a new one where none was
-pub new_was_free : (is_new : Bool) (old new : State) (tab key value : List ℕ) (count : ℕ) → HoldsRecords old.now → Executes (put_text is_new) (Text tab ∷ Blob key ∷ Blob value ∷ []) old new (Ok count)
-    → IsTrue is_new → records_in old.now tab key ≡ None
-new_was_free true old new tab key value count holds h is = was_free old new tab key value count holds h
-new_was_free false old new tab key value count holds h is = absurd (cc)

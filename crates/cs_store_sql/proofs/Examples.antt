@@ -16,7 +16,7 @@ use Rattle.sqlite_resolve.specs.declared.error.CompileError.{CompileError}
 use Rattle.sqlite_tied.specs.Compute.{everything}
 use Rattle.cs_store_sql.specs.Records.{required, records_table, IsApart, IsOfKey, DeclaresRecords, IsDeclaredOtherwise, LacksRecords}
 use Rattle.cs_store_sql.specs.Meaning.{AreStatements}
-use Rattle.cs_store_sql.specs.Statements.{find_text, find_query, list_text, list_query, count_text, count_query, page_text, page_query, scan_text, scan_query, put_text, put_command, remove_text, remove_command, alone, IsStatement, IsSelectOf}
+use Rattle.cs_store_sql.specs.Statements.{find_text, find_query, list_text, list_query, count_text, count_query, page_text, page_query, scan_text, scan_query, put_text, put_command, replace_text, replace_command, remove_text, remove_command, take_text, take_command, alone, IsStatement, IsSelectOf}
 
 -- ---- schemas
 
@@ -73,7 +73,9 @@ record Texts (schema : Schema) (index tree : ℕ) : Type 0 where
   scans : Selects schema scan_text 0 (scan_query tree)
   inserts : Commands schema (put_text true) 3 (put_command index tree true)
   puts : Commands schema (put_text false) 3 (put_command index tree false)
+  replaces : Commands schema replace_text 2 (replace_command index tree)
   removes : Commands schema remove_text 2 (remove_command index tree)
+  takes : Commands schema take_text 1 (take_command index tree)
 
 statements : (schema : Schema) (index tree : ℕ) → Texts schema index tree → AreStatements schema index tree
 statements schema index tree t = record {
@@ -85,7 +87,9 @@ statements schema index tree t = record {
   writes = record {
     inserts = said schema (put_text true) 3 (λ its. its ≡ put_command index tree true) t.inserts;
     puts = said schema (put_text false) 3 (λ its. its ≡ put_command index tree false) t.puts;
+    replaces = said schema replace_text 2 (λ its. its ≡ replace_command index tree) t.replaces;
     removes = said schema remove_text 2 (λ its. its ≡ remove_command index tree) t.removes;
+    takes = said schema take_text 1 (λ its. its ≡ take_command index tree) t.takes;
   };
 }
 
@@ -103,7 +107,9 @@ texts_alone = record {
   scans = (refl, refl, omega arith, refl, (_, refl));
   inserts = (refl, refl, omega arith, refl, refl);
   puts = puts_alone;
+  replaces = (refl, refl, omega arith, refl, refl);
   removes = (refl, refl, omega arith, refl, refl);
+  takes = (refl, refl, omega arith, refl, refl);
 }
 
 puts_after : Commands records_after (put_text false) 3 (put_command 1 1 false)
@@ -120,7 +126,9 @@ texts_after = record {
   scans = (refl, refl, omega arith, refl, (_, refl));
   inserts = (refl, refl, omega arith, refl, refl);
   puts = puts_after;
+  replaces = (refl, refl, omega arith, refl, refl);
   removes = (refl, refl, omega arith, refl, refl);
+  takes = (refl, refl, omega arith, refl, refl);
 }
 
 -- ---- what they declare

@@ -1,6 +1,6 @@
 -- With which errors a call on records fails.
-use Rattle.std.proofs.Common.{◌≡◌, ◌≢◌, ℕ, ◌<◌, List, length, Result, Ok, Err, IfErr, IsErrAnd, sym, ap, subst, ◌∙◌}
-use Rattle.sqlite_value.specs.declared.value.Value.TheVariants.{Blob}
+use Rattle.std.proofs.Common.{◌≡◌, ◌≢◌, ℕ, ◌<◌, length, Result, Ok, Err, IfErr, IsErrAnd, sym, subst}
+use Rattle.sqlite_value.specs.declared.value.Value.{Value}
 use Rattle.sqlite_value.specs.Order.{Row, column}
 use Rattle.sqlite.specs.declared.error.Error.{Error}
 use Rattle.sqlite.specs.declared.error.Error.TheVariants as error
@@ -30,9 +30,9 @@ pub failure_so : {X : Type 0} (r : Result X RecordsError) (One Other : Error →
 failure_so (Ok x) One Other f is fails so = tt
 failure_so (Err g) One Other f is fails so = subst (IsFailure Other) (sym is) (so_fails One Other f fails so)
 
--- a blob is read, unless memory runs out
-pub blob_read : {X : Type 0} (r : Result X RecordsError) (Fails : Error → Type 0) (e : Error) (row shown : Row) (at : ℕ) (bytes : List ℕ) → IsErrAnd r (λ f. f ≡ refusal_of e)
-    → row ≡ shown → at < length shown → column shown at ≡ Blob bytes
-    → (e ≢ error.SqliteFailure code.OutOfMemory → at < length row → ¬ ((b : List ℕ) × (column row at ≡ Blob b))) → IfErr r (IsFailure Fails)
-blob_read r Fails e row shown at bytes is same within shows kind =
-    failure r Fails e is (λ other. absurd (kind other (subst (λ (s : Row). at < length s) (sym same) within) (bytes, ap (λ (s : Row). column s at) same ∙ shows)))
+-- a value of the kind that is asked for is read, unless memory runs out
+pub value_read : {X : Type 0} (r : Result X RecordsError) (Fails : Error → Type 0) (e : Error) (row shown : Row) (at : ℕ) (IsReadable : Value → Type 0) → IsErrAnd r (λ f. f ≡ refusal_of e)
+    → row ≡ shown → at < length shown → IsReadable (column shown at)
+    → (e ≢ error.SqliteFailure code.OutOfMemory → at < length row → ¬ IsReadable (column row at)) → IfErr r (IsFailure Fails)
+value_read r Fails e row shown at IsReadable is same within readable kind =
+    failure r Fails e is (λ other. absurd (kind other (subst (λ (s : Row). at < length s) (sym same) within) (subst (λ (s : Row). IsReadable (column s at)) (sym same) readable)))

@@ -12,11 +12,11 @@ pub mod MarkLemmas
 pub mod OrderLemmas
 pub mod PagedRows
 mod PlaceLemmas
-pub mod PutLemmas
 pub mod QueryLemmas
 pub mod QueryTexts
 pub mod ReadFailures
 pub mod RemoveLemmas
+pub mod ReplaceLemmas
 pub mod RowLemmas
 pub mod ScanLemmas
 pub mod ScannedRows
@@ -25,3 +25,4 @@ pub mod StatementLemmas
 pub mod TableLemmas
 pub mod TransactionLemmas
 pub mod WriteFailures
+pub mod WriteLemmas

@@ -1,6 +1,6 @@
 -- Texts that ask for nothing but rows: a call of one changes nothing, and a failure of one leaves the database or takes
 -- it back.
-use Rattle.std.proofs.Common.{◌≡◌, inl, inr, ℕ, List, Option, Some, None, Result, Ok, Err, IsSome, IfOk, OnErr, subst}
+use Rattle.std.proofs.Common.{◌≡◌, inl, inr, ℕ, List, Option, Some, None, Result, Ok, Err, IsSome, IfOk, IsErr, OnOk, OnErr, subst}
 use Rattle.sqlite_value.specs.Order.{Row}
 use Rattle.sqlite_schema.specs.declared.command.Returning.{Returning}
 use Rattle.sqlite_resolve.specs.declared.compiled.Compiled.{Compiled}
@@ -36,6 +36,11 @@ pub fails_rests : (sql : List ℕ) (params : Row) (old new : State) (e : Error) 
 unfolding FailsToQuery
 fails_rests sql params old new e (inl not_run) = not_run_rests sql params old new e not_run
 fails_rests sql params old new e (inr shown) = show_rests old new sql shown.0 (timed params shown.0.formats shown.1.now) e shown.0.returning shown.2
+
+-- what is said of values says nothing of a failure
+pub not_ok : {X E : Type 0} (r : Result X E) (P : Type 0) → IsErr r → OnOk r P
+not_ok (Ok x) P none = absurd (cc)
+not_ok (Err e) P failed = tt
 
 -- a fact under a failure, and what follows under a value
 pub on_err : {X E : Type 0} (r : Result X E) (P : Type 0) → P → OnErr r P

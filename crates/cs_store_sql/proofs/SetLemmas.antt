@@ -7,9 +7,10 @@ use Rattle.std.specs.Ordering.{is_eq}
 use Rattle.std.proofs.lemmas.List.Sorted.{IsPermutation-sym}
 use Rattle.sqlite_rules.proofs.ProbeLemmas.{has_mapped, mapped_has}
 use Rattle.sqlite_rules.proofs.ListLemmas.{all_has, some_has, some_from, has_filtered, has_kept}
-use Rattle.sqlite_rules.proofs.PlaceLemmas.{given}
+use Rattle.sqlite_rules.proofs.PlaceLemmas.{given as given_rowids}
 use Rattle.sqlite_trees.specs.Tree.{Trees, rowid}
 use Rattle.sqlite_sql.specs.Ops.{unary}
+use Rattle.sqlite_sql.specs.Query.{Query}
 use Rattle.sqlite_sql.specs.Program.{overlay}
 use Rattle.sqlite_rules.specs.Calls.{ids_of}
 use Rattle.cs_store_sql.proofs.AnswerLemmas.{answer_chosen, overlay_none, ShowsChosen, passes_where, shown_of}
@@ -39,8 +40,9 @@ use Rattle.sqlite.specs.State.{State, mode_of, Executes}
 use Rattle.cs_store_sql.specs.Records.{records_table, records_tree, record_rows, IsOfKey, HoldsRecords, Sets, content, is_under}
 use Rattle.cs_store_sql.proofs.RowLemmas.{IsRecordRow, same_is, is_listed, record_row, one_number, has_permuted, under_is, under_from, equal_texts, equal_blobs}
 use Rattle.cs_store_sql.proofs.EditLemmas.{same_number, equal_numbers, same_as_itself, Edits, puts_one, edit_sets}
+use Rattle.cs_store_sql.specs.Failing as statement
 use Rattle.cs_store_sql.specs.Statements.{put_text, put_command, alone, update_query, clause}
-use Rattle.cs_store_sql.proofs.PutLemmas.{put_writes}
+use Rattle.cs_store_sql.proofs.WriteLemmas.{writes}
 use Rattle.cs_store_sql.proofs.StatementLemmas.{on_table, one_edit, went, same_value}
 
 -- ---- the row
@@ -111,102 +113,92 @@ module _ (limit : Option ℕ) (keys : Keys) (db : Database) (holds : HoldsRecord
 
   -- ---- a record is there
 
-  -- what the update is given: the parameters, the rowid that it found, and the row that was to be put in
-  abbrev update_params : ℤ → Row → Row
-  update_params n there = Text tab ∷ Blob key ∷ Blob value ∷ rowid there ∷ shown table (record_at n tab key value)
+  -- what the update is given: at one place the number of a row, at another the value
+  module _ (number_at value_at : ℕ) (given : Row) (number : ℤ) (numbered : column given number_at ≡ Int number) (valued : column given value_at ≡ Blob value) where
+    abbrev query : Query
+    query = update_query tree number_at value_at
 
-  -- whether a row passes, and what is shown of it
-  abbrev passes_update : ℤ → Row → Row → Bool
-  passes_update n there = passes_where (update_query tree) (update_params n there)
+    -- whether a row passes, and what is shown of it
+    abbrev passes_update : Row → Bool
+    passes_update = passes_where query given
 
-  abbrev updated : ℤ → Row → Row → Row
-  updated n there = shown_of (update_query tree) (update_params n there)
+    abbrev updated : Row → Row
+    updated = shown_of query given
 
-  -- a row passes where it has that rowid
-  passes_number : (n : ℤ) (there row : Row) (a b : ℤ) → rowid row ≡ Int a → rowid there ≡ Int b → passes_update n there row ≡ is_eq (value_cmp (Int a) (Int b))
-  passes_number n there row a b p q = rw (p, q, equal_numbers a b, and-true (is_eq (value_cmp (Int a) (Int b))))
+    -- a row passes where it has that number
+    passes_number : (row : Row) (a : ℤ) → rowid row ≡ Int a → passes_update row ≡ is_eq (value_cmp (Int a) (Int number))
+    passes_number row a p = rw (p, numbered, equal_numbers a number, and-true (is_eq (value_cmp (Int a) (Int number))))
 
-  -- so a row that passes has the rowid of the row that was found
-  numbered_alike : (n : ℤ) (there other row : Row) → IsRecordRow other → IsRecordRow row → rowid there ≡ rowid row → passes_update n there other ≡ true → rowid other ≡ rowid row
-  numbered_alike n there other row y x same passes =
-      let own : rowid other ≡ Int y.number = ap rowid y.is in
-      let found : rowid row ≡ Int x.number = ap rowid x.is in
-      own ∙ ap Int (same_number y.number x.number (sym (passes_number n there other y.number x.number own (same ∙ found)) ∙ passes)) ∙ sym found
+    -- so a row that passes has the number
+    numbered_so : (row : Row) → IsRecordRow row → passes_update row ≡ true → rowid row ≡ Int number
+    numbered_so row x passes =
+        let own : rowid row ≡ Int x.number = ap rowid x.is in
+        own ∙ ap Int (same_number x.number number (sym (passes_number row x.number own) ∙ passes))
 
-  -- and that row passes
-  passes_own : (n : ℤ) (there row : Row) → IsRecordRow row → rowid there ≡ rowid row → passes_update n there row ≡ true
-  passes_own n there row x same =
-      let found : rowid row ≡ Int x.number = ap rowid x.is in
-      passes_number n there row x.number x.number found (same ∙ found) ∙ same_as_itself x.number
+    -- and the row with the number passes
+    passes_own : (row : Row) → rowid row ≡ Int number → passes_update row ≡ true
+    passes_own row own = passes_number row number own ∙ same_as_itself number
 
-  -- it is shown with the new value
-  cast_shown : (n : ℤ) (there row : Row) (x : IsRecordRow row) → cast_row table (drop 1 (updated n there row)) ≡ record_at x.number x.tab x.key value
-  cast_shown n there row x = rw x.is (cast_record tree x.number x.tab x.key value)
+    -- it is shown with the new value
+    cast_shown : (row : Row) (x : IsRecordRow row) → cast_row table (drop 1 (updated row)) ≡ record_at x.number x.tab x.key value
+    cast_shown row x = rw (x.is, valued, cast_record tree x.number x.tab x.key value)
 
-  module _ (n : ℤ) (there row : Row) (has : Has rows row) (is : there ≡ rowid row ∷ []) (asked_rows : List Row)
-      (asked : ShowsChosen (update_query tree) rows (update_params n there) asked_rows) where
-    -- the rowid that was found is the row's
-    given_rowid : rowid there ≡ rowid row
-    given_rowid = ap rowid is
+    module _ (row : Row) (has : Has rows row) (own : rowid row ≡ Int number) (asked_rows : List Row) (asked : ShowsChosen query rows given asked_rows) where
+      -- no other row is asked for
+      asked_is : (shows : Row) → Has asked_rows shows → shows ≡ updated row
+      asked_is shows h =
+          let of = has_mapped updated asked.chosen shows (subst (λ l. Has l shows) asked.is h) in
+          let passing = filter passes_update rows in
+          let it = has_filtered passes_update rows of.0 (has_permuted asked.chosen passing of.0 (IsPermutation-sym passing asked.chosen asked.same) of.1) in
+          let alike = numbered_so of.0 (record_row db of.0 holds it.0) it.1 ∙ sym own in
+          let one = one_number db of.0 row holds it.0 has alike in
+          subst (λ r. shows ≡ updated r) one of.2
 
-    -- no other row is asked for
-    asked_is : (shows : Row) → Has asked_rows shows → shows ≡ updated n there row
-    asked_is shows h =
-        let of = has_mapped (updated n there) asked.chosen shows (subst (λ l. Has l shows) asked.is h) in
-        let passing = filter (passes_update n there) rows in
-        let it = has_filtered (passes_update n there) rows of.0 (has_permuted asked.chosen passing of.0 (IsPermutation-sym passing asked.chosen asked.same) of.1) in
-        let alike = numbered_alike n there of.0 row (record_row db of.0 holds it.0) (record_row db row holds has) given_rowid it.1 in
-        let one = one_number db of.0 row holds it.0 has alike in
-        subst (λ r. shows ≡ updated n there r) one of.2
+      -- and that row is
+      is_asked : Has asked_rows (updated row)
+      is_asked =
+          let passing = filter passes_update rows in
+          let chosen = has_permuted passing asked.chosen row asked.same (has_kept passes_update rows row has (passes_own row own)) in
+          subst (λ l. Has l (updated row)) (sym asked.is) (mapped_has updated asked.chosen row chosen)
 
-    -- and that row is
-    is_asked : Has asked_rows (updated n there row)
-    is_asked =
-        let passing = filter (passes_update n there) rows in
-        let passes = passes_own n there row (record_row db row holds has) given_rowid in
-        let chosen = has_permuted passing asked.chosen row asked.same (has_kept (passes_update n there) rows row has passes) in
-        subst (λ l. Has l (updated n there row)) (sym asked.is) (mapped_has (updated n there) asked.chosen row chosen)
-
-  -- the update of the row that is there
-  updates : (n : ℤ) (there : Row) (one : Written) (row : Row) → Has rows row → is_under tab key row ≡ true → there ≡ rowid row ∷ []
-      → Updates reads (alone (update_query tree)) (update_params n there) db.trees (Ok one) → EditsInto one.trees
-  updates n there one row has under is h =
-      let asked = went h in
-      let put = went asked.2 in
-      let shows : ShowsChosen (update_query tree) rows (update_params n there) asked.0 =
-      subst (λ l. ShowsChosen (update_query tree) l (update_params n there) asked.0) (overlay_none db.trees tree)
-      (answer_chosen tree _ _ _ _ (overlay db.trees []) (update_params n there) asked.0 (asked.1.answer Null)) in
-      let gone = ids_of asked.0 in
-      let edit = edit_of db.trees table gone Given 1 asked.0 in
-      let left = without_all rows gone in
-      let applied = one_edit db.schema keys db.trees put.0 edit holds.declares refl put.1 in
-      let x = record_row db row holds has in
-      let named = under_is tab key row under in
-      let next = record_at x.number x.tab x.key value in
-      let next_under : is_under tab key next ≡ true = under_from tab key next (sym (ap (λ r. content (column r 1)) x.is) ∙ named.0) (sym (ap (λ r. content (column r 2)) x.is) ∙ named.1) in
-      let made = λ (r : Row). cast_row table (drop 1 r) in
-      let next_is : made (updated n there row) ≡ next = cast_shown n there row x in
-      let news : edit.news ≡ map made asked.0 = given left (map made asked.0) in
-      let new_is = λ (r : Row) (there_is : Has edit.news r).
-      let of = has_mapped made asked.0 r (subst (λ l. Has l r) news there_is) in
-      let same : r ≡ next = of.2 ∙ ap made (asked_is n there row has is asked.0 shows of.0 of.1) ∙ next_is in same in
-      let adds : Has edit.news next = subst (λ l. Has l next) (sym news) (subst (Has (map made asked.0)) next_is (mapped_has made asked.0 _ (is_asked n there row has is asked.0 shows))) in
-      subst EditsInto (sym (ap (λ (it : Written). it.trees) (same_value put.2))) (record {
-        replaces = record {
-          gone = gone;
-          news = edit.news;
-          taken = λ id gone_is.
-              let of = has_mapped (λ r. id_in (rowid r)) asked.0 id gone_is in
-              let number : x.number ≡ id = sym (of.2 ∙ ap (λ r. id_in (rowid r)) (asked_is n there row has is asked.0 shows of.0 of.1) ∙ ap (λ r. id_in (rowid r)) x.is) in
-              (row, has, under, ap rowid x.is ∙ ap Int number);
-          given = λ r new. subst (λ s. is_under tab key s ≡ true) (sym (new_is r new)) next_under;
-          keyed = applied.keyed;
-          fresh = applied.fresh;
-          is = applied.rows;
-          set = (next, put_all_adds edit.news left next applied.fresh adds, next_under, refl);
-        };
-        spares = applied.tables;
-      })
+    -- the update of the row that is there
+    pub updates : (one : Written) (row : Row) → Has rows row → is_under tab key row ≡ true → rowid row ≡ Int number → Updates reads (alone query) given db.trees (Ok one) → EditsInto one.trees
+    updates one row has under own h =
+        let asked = went h in
+        let put = went asked.2 in
+        let shows : ShowsChosen query rows given asked.0 =
+        subst (λ l. ShowsChosen query l given asked.0) (overlay_none db.trees tree) (answer_chosen tree _ _ _ _ (overlay db.trees []) given asked.0 (asked.1.answer Null)) in
+        let gone = ids_of asked.0 in
+        let edit = edit_of db.trees table gone Given 1 asked.0 in
+        let left = without_all rows gone in
+        let applied = one_edit db.schema keys db.trees put.0 edit holds.declares refl put.1 in
+        let x = record_row db row holds has in
+        let named = under_is tab key row under in
+        let next = record_at x.number x.tab x.key value in
+        let next_under : is_under tab key next ≡ true = under_from tab key next (sym (ap (λ r. content (column r 1)) x.is) ∙ named.0) (sym (ap (λ r. content (column r 2)) x.is) ∙ named.1) in
+        let made = λ (r : Row). cast_row table (drop 1 r) in
+        let next_is : made (updated row) ≡ next = cast_shown row x in
+        let news : edit.news ≡ map made asked.0 = given_rowids left (map made asked.0) in
+        let new_is = λ (r : Row) (there_is : Has edit.news r).
+        let of = has_mapped made asked.0 r (subst (λ l. Has l r) news there_is) in
+        let same : r ≡ next = of.2 ∙ ap made (asked_is row has own asked.0 shows of.0 of.1) ∙ next_is in same in
+        let adds : Has edit.news next = subst (λ l. Has l next) (sym news) (subst (Has (map made asked.0)) next_is (mapped_has made asked.0 _ (is_asked row has own asked.0 shows))) in
+        subst EditsInto (sym (ap (λ (it : Written). it.trees) (same_value put.2))) (record {
+          replaces = record {
+            gone = gone;
+            news = edit.news;
+            taken = λ id gone_is.
+                let of = has_mapped (λ r. id_in (rowid r)) asked.0 id gone_is in
+                let same : number ≡ id = sym (of.2 ∙ ap (λ r. id_in (rowid r)) (asked_is row has own asked.0 shows of.0 of.1) ∙ ap id_in own) in
+                (row, has, under, own ∙ ap Int same);
+            given = λ r new. subst (λ s. is_under tab key s ≡ true) (sym (new_is r new)) next_under;
+            keyed = applied.keyed;
+            fresh = applied.fresh;
+            is = applied.rows;
+            set = (next, put_all_adds edit.news left next applied.fresh adds, next_under, refl);
+          };
+          spares = applied.tables;
+        })
 
   -- ---- the statement
 
@@ -252,7 +244,9 @@ module _ (limit : Option ℕ) (keys : Keys) (db : Database) (holds : HoldsRecord
   upserts n one ([], found, otherwise) = puts n one (clears n one otherwise.0 otherwise.2)
   upserts n one ((there ∷ more), found, update) =
       let it = found.sound there (inl refl) in
-      updates n there one it.0 it.1 (sym (in_the_way n it.0 (record_row db it.0 holds it.1)) ∙ it.2) it.3 update
+      let x = record_row db it.0 holds it.1 in
+      let own : rowid it.0 ≡ Int x.number = ap rowid x.is in
+      updates 3 2 (Text tab ∷ Blob key ∷ Blob value ∷ rowid there ∷ shown table (record_at n tab key value)) x.number (ap rowid it.3 ∙ own) refl one it.0 it.1 (sym (in_the_way n it.0 x) ∙ it.2) own update
 
   -- a row that is tried is not refused
   tries : (n : ℤ) (one : Written) → Tries reads Abort (clause tree ∷ []) (record_at n tab key value) db.trees (Ok one) → EditsInto one.trees
@@ -277,7 +271,7 @@ sets old new tab key value count holds h =
     let schema = old.now.schema in
     let tree = records_tree schema in
     let index = holds.declares.index in
-    let w = put_writes false old new params count holds.declares h in
+    let w = writes (statement.puts false tab key value) old new count holds.declares h in
     let done = went (on_table old new w.tally params index (records_table tree) (put_command index tree false) holds.declares.table w.changed) in
     let now = ap (λ (p : Tally × Database). p.1) (same_value (went (went done.2).2).2) in
     let sourced = went done.1 in

@@ -1,42 +1,23 @@
 -- Why a statement that writes a record fails, and what it makes.
-use Rattle.std.proofs.Common.{◌≡◌, ◌≢◌, ◌||◌, inl, inr, ℕ, Bool, true, false, true≢false, Option, List, length, None, Ok, Err, IsTrue, refl, sym, ap, subst, ◌∙◌}
+use Rattle.std.proofs.Common.{◌≡◌, ◌≢◌, inl, inr, ℕ, Bool, true, false, true≢false, List, length, None, Ok, Err, IsTrue, refl, sym, ap, subst, ◌∙◌}
 use Rattle.std.proofs.lemmas.Bool.{cases_Bool}
-use Rattle.sqlite_value.specs.Order.{Row}
 use Rattle.sqlite_trees.specs.declared.error.StoreError.TheVariants as store
 use Rattle.sqlite_schema.specs.declared.schema.Schema.{Schema}
 use Rattle.sqlite_schema.specs.declared.command.Command.{Command}
 use Rattle.sqlite_schema.specs.declared.command.Command.TheVariants.{Begin, Commit, Rollback, Release, RollbackTo}
-use Rattle.sqlite_schema.specs.declared.command.Returning.{Returning}
 use Rattle.sqlite_resolve.specs.declared.compiled.Compiled.{Compiled}
 use Rattle.sqlite.specs.declared.error.Error.{Error}
 use Rattle.sqlite.specs.declared.error.Error.TheVariants.{SqliteFailure}
 use Rattle.sqlite.specs.declared.error.ErrorCode.TheVariants.{OutOfMemory}
 use Rattle.sqlite.specs.Clock.{timed}
 use Rattle.sqlite.specs.Does.{Tally, Does}
-use Rattle.sqlite.specs.Effect.{is_query}
 use Rattle.sqlite.specs.Listing.{understood}
-use Rattle.sqlite.specs.State.{State, Executes, ExecutesIn, IsNotRun, IsMisplaced, Runs, RunsCommand, Writes, is_pragma, mode_of, shows_rows, text_of}
-use Rattle.cs_store_sql.specs.Failing.{Statement, puts, removes, text_in, params_in, FailsAt, StatementEnds, CannotWrite}
-use Rattle.cs_store_sql.specs.Records.{DeclaresRecords, records_tree}
-use Rattle.cs_store_sql.specs.Statements.{IsCommand, put_command, remove_command}
-use Rattle.cs_store_sql.proofs.PutLemmas.{puts_as}
+use Rattle.sqlite.specs.State.{State, Executes, ExecutesIn, IsNotRun, IsMisplaced, Runs, RunsCommand, mode_of, shows_rows, text_of}
+use Rattle.cs_store_sql.specs.Failing.{Statement, puts, replaces, removes, takes, text_in, params_in, FailsAt, StatementEnds, CannotWrite}
+use Rattle.cs_store_sql.specs.Records.{DeclaresRecords}
 use Rattle.cs_store_sql.proofs.QueryTexts.{understood_is}
 use Rattle.cs_store_sql.proofs.StatementLemmas.{IsWhole, is_statement, by_disk, quiet_is}
-
--- the command of a statement on the table of records
-abbrev command_in : (schema : Schema) → DeclaresRecords schema → Statement → Command
-command_in schema declares (puts is_new tab key value) = put_command declares.index (records_tree schema) is_new
-command_in schema declares (removes tab key) = remove_command declares.index (records_tree schema)
-
-is_command : (schema : Schema) (declares : DeclaresRecords schema) (s : Statement) → IsCommand schema (text_in s) (length (params_in s)) (command_in schema declares s)
-is_command schema declares (puts is_new tab key value) = puts_as schema declares is_new
-is_command schema declares (removes tab key) = declares.statements.writes.removes
-
--- it shows no rows
-is_quiet : (schema : Schema) (declares : DeclaresRecords schema) (s : Statement) → is_query (command_in schema declares s) || is_pragma (command_in schema declares s) ≡ false
-is_quiet schema declares (puts true tab key value) = refl
-is_quiet schema declares (puts false tab key value) = refl
-is_quiet schema declares (removes tab key) = refl
+use Rattle.cs_store_sql.proofs.WriteLemmas.{command_in, is_command, is_quiet, writes_so}
 
 -- only a command that begins or ends a part of a transaction can be misplaced, and it is none
 abbrev is_mark : Command → Bool
@@ -57,14 +38,9 @@ misplaced_mark at command e (inr (is, name, inr same, unnamed)) = ap is_mark sam
 no_mark : (schema : Schema) (declares : DeclaresRecords schema) (s : Statement) → is_mark (command_in schema declares s) ≡ false
 no_mark schema declares (puts true tab key value) = refl
 no_mark schema declares (puts false tab key value) = refl
+no_mark schema declares (replaces number tab key value) = refl
 no_mark schema declares (removes tab key) = refl
-
--- it writes
-writes_so : (schema : Schema) (declares : DeclaresRecords schema) (s : Statement) (old new : State) (returning : Option Returning) (text : List ℕ) (params : Row) (count : ℕ)
-    → Runs old new returning (command_in schema declares s) text params count → Writes old new returning (command_in schema declares s) text params count
-writes_so schema declares (puts true tab key value) old new returning text params count runs = runs
-writes_so schema declares (puts false tab key value) old new returning text params count runs = runs
-writes_so schema declares (removes tab key) old new returning text params count runs = runs
+no_mark schema declares (takes number tab key) = refl
 
 module _ (s : Statement) (old new : State) where
   abbrev sql : List ℕ

@@ -1,7 +1,7 @@
 -- Why a call on records fails: out of memory, or the database failed. The kit's `sqlite` defines how.
-use Rattle.std.specs.Prelude.{◌≡◌, ◌≢◌, ◌⊎◌, ℕ, Bool, false, List, [], ◌∷◌, Option, Some, None, Result, Ok, Err, IsSome}
+use Rattle.std.specs.Prelude.{◌≡◌, ◌≢◌, ◌⊎◌, ℕ, ℤ, Bool, true, false, List, [], ◌∷◌, Option, Some, None, Result, Ok, Err, IsSome, IsTrue, IfErr, OnOk, OnErr}
 use Rattle.sqlite_disk.specs.Disk.{MoreFaults}
-use Rattle.sqlite_value.specs.declared.value.Value.TheVariants.{Text, Blob}
+use Rattle.sqlite_value.specs.declared.value.Value.TheVariants.{Int, Text, Blob}
 use Rattle.sqlite_value.specs.Order.{Row}
 use Rattle.sqlite_schema.specs.declared.schema.Keys.TheVariants.{Enforced}
 use Rattle.sqlite_resolve.specs.declared.compiled.Compiled.{Compiled}
@@ -14,30 +14,47 @@ use Rattle.sqlite.specs.Clock.{timed}
 use Rattle.sqlite.specs.Does.{Tally, Does}
 use Rattle.sqlite.specs.Effect.{Database}
 use Rattle.sqlite.specs.Listing.{understood}
-use Rattle.sqlite.specs.State.{State, Executes, store_error, text_of}
+use Rattle.sqlite.specs.State.{State, HasCleanDisk, IsUnchanged, Executes, store_error, text_of}
 use Rattle.cs_store_sql.specs.declared.fault.RecordsError.{RecordsError}
 use Rattle.cs_store_sql.specs.declared.fault.RecordsError.TheVariants as records
-use Rattle.cs_store_sql.specs.Records.{IsUnsupported, Makes}
-use Rattle.cs_store_sql.specs.Statements.{create_text, put_text, remove_text, Creates}
+use Rattle.cs_store_sql.specs.declared.records.Place.{Place}
+use Rattle.cs_store_sql.specs.declared.records.Place.TheVariants as place
+use Rattle.cs_store_sql.specs.Records.{DeclaresRecords, HoldsRecords, IsUndone, IsUnsupported, KeepsCrash, Makes, Rests}
+use Rattle.cs_store_sql.specs.Statements.{create_text, put_text, replace_text, remove_text, take_text, Creates}
 
 -- Out of memory, or the database failed with another error, and `Fails` holds of it.
 abbrev pub IsFailure : (Error → Type 0) → RecordsError → Type 0
 IsFailure Fails records.NoMemory = Unit {0}
 IsFailure Fails (records.Database error) = (error ≢ SqliteFailure OutOfMemory) × Fails error
 
--- A statement that writes a record, with its parameters.
+-- A statement that writes a record: by its name and key, or by the number of its row.
 pub data Statement : Type 0 where
   puts : (is_new : Bool) (tab key value : List ℕ) → Statement
+  replaces : (number : ℤ) (tab key value : List ℕ) → Statement
   removes : (tab key : List ℕ) → Statement
+  takes : (number : ℤ) (tab key : List ℕ) → Statement
 
 -- its text, and its parameters
 abbrev pub text_in : Statement → List ℕ
 text_in (puts is_new tab key value) = put_text is_new
+text_in (replaces number tab key value) = replace_text
 text_in (removes tab key) = remove_text
+text_in (takes number tab key) = take_text
 
 abbrev pub params_in : Statement → Row
 params_in (puts is_new tab key value) = Text tab ∷ Blob key ∷ Blob value ∷ []
+params_in (replaces number tab key value) = Blob value ∷ Int number ∷ []
 params_in (removes tab key) = Text tab ∷ Blob key ∷ []
+params_in (takes number tab key) = Int number ∷ []
+
+-- the statement that puts a record whose row is at that place, and the one that removes it
+abbrev pub put_at : Place → List ℕ → List ℕ → List ℕ → Statement
+put_at place.Unknown tab key value = puts false tab key value
+put_at (place.At number) tab key value = replaces number tab key value
+
+abbrev pub remove_at : Place → List ℕ → List ℕ → Statement
+remove_at place.Unknown tab key = removes tab key
+remove_at (place.At number) tab key = takes number tab key
 
 -- The database failed at the statement with this error.
 abbrev pub FailsAt : State → State → Statement → Error → Type 0
@@ -87,6 +104,31 @@ CannotWrite old new statement error = HasDiskFailed old new error ⊎ Refuses ol
 -- A read fails only because the disk failed, or where the connection limits the steps of a query.
 abbrev pub CannotRead : State → State → Error → Type 0
 CannotRead old new error = HasDiskFailed old new error ⊎ ((error ≡ SqliteFailure OperationInterrupted) × IsSome old.step_limit)
+
+-- ---- what calls say
+
+-- A call that reads changes nothing, and fails as a read does where the table of records is declared.
+abbrev pub ChangesNothing : {X E : Type 0} → State → State → Result X E → Type 0
+ChangesNothing old new result = HasCleanDisk new → OnOk result (IsUnchanged old new)
+
+abbrev pub ReadFails : {X : Type 0} → State → State → Result X RecordsError → Type 0
+ReadFails old new result =
+    HasCleanDisk new → (IsTrue old.is_open → DeclaresRecords old.now.schema) → IfErr result (IsFailure (CannotRead old new))
+
+-- A refused call changes nothing, or its failure took the database back to the last commit.
+abbrev pub RefusalRests : {X E : Type 0} → State → State → Result X E → Type 0
+RefusalRests old new result = HasCleanDisk new → OnErr result (Rests old new)
+
+-- A refused call took the database back to the last commit.
+abbrev pub RefusalUndoes : {X E : Type 0} → State → State → Result X E → Type 0
+RefusalUndoes old new result = HasCleanDisk new → OnErr result (IsUndone old new)
+
+-- Inside a transaction, on a database that holds records, a crash leaves nothing that it could not leave before.
+abbrev pub KeepsCrashInside : State → State → Type 0
+KeepsCrashInside old new =
+    (HasCleanDisk old → HoldsRecords old.now) → (HasCleanDisk old → IsTrue old.in_transaction) → KeepsCrash old new
+
+-- ---- transactions
 
 -- A transaction begins only where none is open, and ends only where one is.
 abbrev pub IsMisplaced : Type 0 → Error → Type 0

@@ -29,6 +29,8 @@ use Rattle.sqlite_resolve.specs.declared.compiled.Compiled.{Compiled}
 use Rattle.sqlite_resolve.specs.declared.error.CompileError.{CompileError}
 use Rattle.sqlite.specs.Effect.{Database, IsDatabase, SparesFrozen}
 use Rattle.sqlite.specs.Listing.{understood}
+use Rattle.cs_store_sql.specs.declared.records.Place.{Place}
+use Rattle.cs_store_sql.specs.declared.records.Place.TheVariants as place
 use Rattle.cs_store_sql.specs.Meaning.{AreStatements}
 use Rattle.cs_store_sql.specs.Statements.{create_text}
 
@@ -173,6 +175,15 @@ pub record HoldsRecords (db : Database) : Type 0 where
 
 abbrev pub records_in : Database → Records
 records_in db = records_of (record_rows db)
+
+-- the row with this number is that of the record under this name and key
+abbrev pub IsAt : Database → List ℕ → List ℕ → ℤ → Type 0
+IsAt db tab key number = (row : Row) × Has (record_rows db) row × (rowid row ≡ Int number) × (is_under tab key row ≡ true)
+
+-- the row of that record is at that place, as far as is known
+abbrev pub IsPlaced : Database → List ℕ → List ℕ → Place → Type 0
+IsPlaced db tab key place.Unknown = Unit {0}
+IsPlaced db tab key (place.At number) = IsAt db tab key number
 
 -- a record: the name of a table, a key and a value
 pub record RecordData : Type 0 where

@@ -5,6 +5,7 @@ use Rattle.sqlite_value.specs.declared.keys.Collation.TheVariants.{Binary}
 use Rattle.sqlite_value.specs.declared.keys.Key.{Key}
 use Rattle.sqlite_value.specs.Keys.{ascending}
 use Rattle.sqlite_sql.specs.declared.ops.BinaryOp.TheVariants.{Compare}
+use Rattle.sqlite_sql.specs.declared.ops.CompareOp.{CompareOp}
 use Rattle.sqlite_sql.specs.declared.ops.CompareOp.TheVariants.{Eq, Gt}
 use Rattle.sqlite_sql.specs.Term.{Term, lit, col, op2}
 use Rattle.sqlite_sql.specs.declared.aggregate.AggregateOp.TheVariants.{CountRows}
@@ -13,7 +14,7 @@ use Rattle.sqlite_sql.specs.Query.{Query, inner, end}
 use Rattle.sqlite_schema.specs.declared.schema.Schema.{Schema}
 use Rattle.sqlite_schema.specs.declared.program.Program.{Program}
 use Rattle.sqlite_schema.specs.declared.command.Command.{Command}
-use Rattle.sqlite_schema.specs.declared.command.Command.TheVariants.{Select, Insert, InsertOr, Delete, CreateTable}
+use Rattle.sqlite_schema.specs.declared.command.Command.TheVariants.{Select, Insert, InsertOr, Update, Delete, CreateTable}
 use Rattle.sqlite_schema.specs.declared.command.Conflict.TheVariants.{Abort}
 use Rattle.sqlite_schema.specs.declared.command.Source.{Source}
 use Rattle.sqlite_schema.specs.declared.command.Source.TheVariants.{Values}
@@ -26,9 +27,9 @@ use Rattle.cs_store_sql.specs.declared.expected.Shape.{Shape}
 
 -- ---- the texts
 
--- the value of a record
+-- the number of the row of a record, and its value
 abbrev pub find_text : List ℕ
-find_text = codes "SELECT rowb FROM rec WHERE tab = ?1 AND keyb = ?2"
+find_text = codes "SELECT rowid, rowb FROM rec WHERE tab = ?1 AND keyb = ?2"
 
 -- the records under a name
 abbrev pub list_text : List ℕ
@@ -51,9 +52,16 @@ abbrev pub put_text : Bool → List ℕ
 put_text true = codes "INSERT INTO rec VALUES(?1, ?2, ?3)"
 put_text false = codes "INSERT INTO rec VALUES(?1, ?2, ?3) ON CONFLICT(tab, keyb) DO UPDATE SET rowb = ?3"
 
--- what removes a record
+-- what replaces the value in the row with a number
+abbrev pub replace_text : List ℕ
+replace_text = codes "UPDATE rec SET rowb = ?1 WHERE rowid = ?2"
+
+-- what removes a record, and the row with a number
 abbrev pub remove_text : List ℕ
 remove_text = codes "DELETE FROM rec WHERE tab = ?1 AND keyb = ?2"
+
+abbrev pub take_text : List ℕ
+take_text = codes "DELETE FROM rec WHERE rowid = ?1"
 
 -- what makes the table
 abbrev pub create_text : List ℕ
@@ -99,11 +107,14 @@ abbrev pub plain_query : ℕ → List Term → List Term → List (Term × Key) 
 plain_query tree filter project order = limited_query tree filter project order no_limit
 
 -- SQL's = and >, under the collation BINARY
+abbrev pub compares : CompareOp → Term → Term → Term
+compares op a b = op2 (Compare op Binary) a b
+
 abbrev pub equals : Term → Term → Term
-equals a b = op2 (Compare Eq Binary) a b
+equals a b = compares Eq a b
 
 abbrev pub above : Term → Term → Term
-above a b = op2 (Compare Gt Binary) a b
+above a b = compares Gt a b
 
 -- the terms that are compared with those of a compiled statement: a column of the row is in slot 1, a parameter in slot
 -- 0
@@ -138,7 +149,7 @@ abbrev pub at_key : List Term
 at_key = equals (col 1 1) (col 0 0) ∷ equals (col 1 2) (col 0 1) ∷ []
 
 abbrev pub find_query : ℕ → Query
-find_query tree = plain_query tree at_key (col 1 3 ∷ []) []
+find_query tree = plain_query tree at_key (col 1 0 ∷ col 1 3 ∷ []) []
 
 abbrev pub list_query : ℕ → Query
 list_query tree = plain_query tree (equals (col 1 1) (col 0 0) ∷ []) (col 1 2 ∷ col 1 3 ∷ []) ((col 1 2, up) ∷ [])
@@ -169,25 +180,38 @@ source_terms = lit value.Null ∷ col 0 0 ∷ col 0 1 ∷ col 0 2 ∷ []
 abbrev pub source : Source
 source = Values source_terms 4
 
--- of the row with the number that is the fourth parameter, that number, and the row with the new value
-abbrev pub update_query : ℕ → Query
-update_query tree = plain_query tree (equals (col 1 0) (col 0 3) ∷ []) (col 1 0 ∷ col 1 0 ∷ col 1 1 ∷ col 1 2 ∷ col 0 2 ∷ []) []
+-- the number of the row is this parameter
+abbrev pub at_number : ℕ → List Term
+at_number param = equals (col 1 0) (col 0 param) ∷ []
 
--- on a row with the same name and key, the update
+-- of the row with the number that is one parameter, that number, and the row with the value that is another parameter
+abbrev pub update_query : ℕ → ℕ → ℕ → Query
+update_query tree number value = plain_query tree (at_number number) (col 1 0 ∷ col 1 0 ∷ col 1 1 ∷ col 1 2 ∷ col 0 value ∷ []) []
+
+-- on a row with the same name and key, the update of that row, whose number is the fourth parameter
 abbrev pub clause : ℕ → Upsert
-clause tree = record { target = Some (1 ∷ 2 ∷ []); update = Some (alone (update_query tree)) }
+clause tree = record { target = Some (1 ∷ 2 ∷ []); update = Some (alone (update_query tree 3 2)) }
 
 -- the table has this index in the schema, and this tree
 abbrev pub put_command : ℕ → ℕ → Bool → Command
 put_command index tree true = Insert index source
 put_command index tree false = InsertOr index Abort source (clause tree ∷ [])
 
+abbrev pub replace_command : ℕ → ℕ → Command
+replace_command index tree = Update index (alone (update_query tree 1 0))
+
 -- the numbers of the rows that are removed
-abbrev pub key_query : ℕ → Query
-key_query tree = plain_query tree at_key (col 1 0 ∷ []) []
+abbrev pub number_query : ℕ → List Term → Query
+number_query tree terms = plain_query tree terms (col 1 0 ∷ []) []
+
+abbrev pub removal : ℕ → ℕ → List Term → Command
+removal index tree terms = Delete index (alone (number_query tree terms))
 
 abbrev pub remove_command : ℕ → ℕ → Command
-remove_command index tree = Delete index (alone (key_query tree))
+remove_command index tree = removal index tree at_key
+
+abbrev pub take_command : ℕ → ℕ → Command
+take_command index tree = removal index tree (at_number 0)
 
 -- ---- under a schema
 

@@ -4,7 +4,7 @@ ghost use Rattle.sqlite_value.specs.declared.value.Value.TheVariants.{Int as Num
 ghost use Rattle.sqlite_sql.specs.Term.{lit, col};
 ghost use Rattle.sqlite_sql.specs.Query.{inner, end};
 ghost use Rattle.sqlite_sql.specs.Syntax.{term_at, term_of, terms_of, order_of, join_at, grouping_of, query_of};
-ghost use Rattle.cs_store_sql.specs.Statements.{equals, above, expected_term, expected_limit, expected_group, all_rows, by_column, expected_query};
+ghost use Rattle.cs_store_sql.specs.Statements.{compares, expected_term, expected_limit, expected_group, all_rows, by_column, expected_query};
 
 use sqlite_sql::aggregate::AggregateOp;
 use sqlite_sql::expr::{Node, open};
@@ -49,27 +49,16 @@ fn is_column(nodes: &[Node<'_>], depth: usize, at: usize, slot: usize, column: u
     }
 }
 
-/// Whether the node at this index tests this column of the row for this parameter.
-fn is_equality(nodes: &[Node<'_>], depth: usize, at: usize, column: usize, param: usize) -> bool
-    ensures { IsTrue result ↔ (term_at nodes.now depth at ≡ equals (col 1 column) (col 0 param)) }
+/// Whether the node at this index compares this column of the row with this parameter.
+fn is_comparison(nodes: &[Node<'_>], at: usize, op: CompareOp, column: usize, param: usize) -> bool
+    ensures { IsTrue result ↔ (term_of nodes.now at ≡ compares op (col 1 column) (col 0 param)) }
 {
-    let (node, below) = open(nodes, depth, at);
+    let (node, below) = open(nodes, nodes.len(), at);
     match node {
-        Node::Binary(BinaryOp::Compare(CompareOp::Eq, Collation::Binary), a, b) => {
-            is_column(nodes, below, a, 1, column) && is_column(nodes, below, b, 0, param)
-        }
-        _ => false,
-    }
-}
-
-/// Whether the node at this index tests whether this column of the row is greater than this parameter.
-fn is_above(nodes: &[Node<'_>], depth: usize, at: usize, column: usize, param: usize) -> bool
-    ensures { IsTrue result ↔ (term_at nodes.now depth at ≡ above (col 1 column) (col 0 param)) }
-{
-    let (node, below) = open(nodes, depth, at);
-    match node {
-        Node::Binary(BinaryOp::Compare(CompareOp::Gt, Collation::Binary), a, b) => {
-            is_column(nodes, below, a, 1, column) && is_column(nodes, below, b, 0, param)
+        Node::Binary(BinaryOp::Compare(found, Collation::Binary), a, b) => {
+            found == op
+                && is_column(nodes, below, a, 1, column)
+                && is_column(nodes, below, b, 0, param)
         }
         _ => false,
     }
@@ -100,8 +89,8 @@ fn is_expected(nodes: &[Node<'_>], at: usize, expected: Expected) -> bool
     match expected {
         Expected::Null => is_null(nodes, at),
         Expected::Column(slot, column) => is_column(nodes, nodes.len(), at, slot, column),
-        Expected::Equal(column, param) => is_equality(nodes, nodes.len(), at, column, param),
-        Expected::Above(column, param) => is_above(nodes, nodes.len(), at, column, param),
+        Expected::Equal(column, param) => is_comparison(nodes, at, CompareOp::Eq, column, param),
+        Expected::Above(column, param) => is_comparison(nodes, at, CompareOp::Gt, column, param),
     }
 }
 

@@ -7,9 +7,9 @@
 //! let mut conn = Connection::open_in_memory(alloc)?;
 //! transactions::begin(&mut conn)?;
 //! make_table(&mut conn, alloc)?;
-//! put_record(&mut conn, "t", b"key", b"value", true)?;
+//! put_record(&mut conn, "t", b"key", b"value", Place::Unknown)?;
 //! transactions::commit(&mut conn)?;
-//! assert_eq!(rt; find_record(&mut conn, "t", b"key")?, Some(value));
+//! assert_eq!(rt; find_record(&mut conn, "t", b"key")?.map(|found| found.value), Some(value));
 //! ```
 //!
 //! `records` has the statements that read and write records, `scan` the one that tests them all, and `texts` their
@@ -30,7 +30,7 @@ pub mod transactions;
 pub use fault::RecordsError;
 pub use layout::{Declaration, declaration_of};
 pub use records::{
-    Keyed, count_records, find_record, list_page, list_records, make_table, put_record,
-    remove_record,
+    Found, Keyed, Place, add_record, count_records, find_record, list_page, list_records,
+    make_table, put_record, remove_record,
 };
 pub use scan::{RecordTest, all_pass};

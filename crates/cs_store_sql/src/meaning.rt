@@ -2,10 +2,10 @@
 //!
 //! Each is compiled under that schema, and compared with the statement on the table of records that it is meant to be.
 //! So it reads and writes the rows of that table, whatever else the database declares.
-ghost use Rattle.std.specs.Prelude.{◌≡◌, ◌↔◌, [], true, false, IsTrue, IfOk, MatchOption};
+ghost use Rattle.std.specs.Prelude.{◌≡◌, ◌↔◌, [], map, true, false, IsTrue, IfOk, MatchOption};
 ghost use Rattle.cs_store_sql.specs.Meaning.{AreStatements, AreWrites, IsMeant};
 ghost use Rattle.cs_store_sql.specs.Statements.{alone, expected_query, find_query, list_query, count_query, page_query, scan_query};
-ghost use Rattle.cs_store_sql.specs.Statements.{put_command, remove_command, source, source_terms, clause};
+ghost use Rattle.cs_store_sql.specs.Statements.{put_command, replace_command, removal, source, source_terms, update_query, expected_term, clause};
 ghost use Rattle.cs_store_sql.specs.Statements.{find_text, list_text, count_text, page_text, scan_text};
 ghost use Rattle.cs_store_sql.specs.Statements.{IsPlainStatement, IsStatement, IsSelectOf, IsSelect, IsCreation, Creates};
 
@@ -108,6 +108,32 @@ fn is_insert(alloc: Global, command: &Command, index: usize) -> Result<bool, All
     }
 }
 
+/// Whether the program updates the value in the row with a number. These parameters are the number and the value.
+fn is_update(
+    alloc: Global,
+    program: &Program,
+    tree: u32,
+    number: usize,
+    value: usize,
+) -> Result<bool, AllocError>
+    ensures { IfOk result (λ yes. IsTrue yes ↔ (program.now ≡ alone (update_query tree number value))) }
+{
+    let shape = Shape {
+        filter: &[Expected::Equal(0, number)],
+        project: &[
+            Expected::Column(1, 0),
+            Expected::Column(1, 0),
+            Expected::Column(1, 1),
+            Expected::Column(1, 2),
+            Expected::Column(0, value),
+        ],
+        order: &[],
+        limit: None,
+        counted: false,
+    };
+    is_program(alloc, program, tree, &shape)
+}
+
 /// Whether the clause replaces the value of the record that is there.
 fn is_clause(alloc: Global, upsert: &Upsert, tree: u32) -> Result<bool, AllocError>
     ensures { IfOk result (λ yes. IsTrue yes ↔ (upsert.now ≡ clause tree)) }
@@ -118,20 +144,7 @@ fn is_clause(alloc: Global, upsert: &Upsert, tree: u32) -> Result<bool, AllocErr
     let Some(program) = &upsert.update else {
         return Ok(false);
     };
-    let shape = Shape {
-        filter: &[Expected::Equal(0, 3)],
-        project: &[
-            Expected::Column(1, 0),
-            Expected::Column(1, 0),
-            Expected::Column(1, 1),
-            Expected::Column(1, 2),
-            Expected::Column(0, 2),
-        ],
-        order: &[],
-        limit: None,
-        counted: false,
-    };
-    Ok(target.as_slice() == [1, 2].as_slice() && is_program(alloc, program, tree, &shape)?)
+    Ok(target.as_slice() == [1, 2].as_slice() && is_update(alloc, program, tree, 3, 2)?)
 }
 
 /// Whether the command inserts a record, or replaces the value of the one that is there.
@@ -147,12 +160,31 @@ fn is_put(alloc: Global, command: &Command, index: usize, tree: u32) -> Result<b
     Ok(*at == index && is_source(alloc, rows)? && is_clause(alloc, upsert, tree)?)
 }
 
-/// Whether the command removes the record with a name and a key.
-fn is_remove(alloc: Global, command: &Command, index: usize, tree: u32) -> Result<bool, AllocError>
-    ensures { IfOk result (λ yes. IsTrue yes ↔ (command.now ≡ remove_command index tree)) }
+/// Whether the command replaces the value in the row with a number.
+fn is_replace(alloc: Global, command: &Command, index: usize, tree: u32) -> Result<bool, AllocError>
+    ensures { IfOk result (λ yes. IsTrue yes ↔ (command.now ≡ replace_command index tree)) }
+{
+    match command {
+        Command::Update(at, program) => {
+            Ok(*at == index && is_update(alloc, program, tree, 1, 0)?)
+        }
+        _ => Ok(false),
+    }
+}
+
+/// Whether the command removes the rows that pass these tests.
+fn is_removal(
+    alloc: Global,
+    command: &Command,
+    index: usize,
+    tree: u32,
+    filter: &[Expected],
+) -> Result<bool, AllocError>
+    ensures { IfOk result (λ yes. IsTrue yes
+        ↔ (command.now ≡ removal index tree (map expected_term filter.now))) }
 {
     let shape = Shape {
-        filter: &[Expected::Equal(1, 0), Expected::Equal(2, 1)],
+        filter,
         project: &[Expected::Column(1, 0)],
         order: &[],
         limit: None,
@@ -172,7 +204,9 @@ enum Meant<'a> {
     Select(&'a Shape<'a>),
     Insert,
     Put,
-    Remove,
+    Replace,
+    /// The removal of the rows that pass these tests.
+    Remove(&'a [Expected]),
 }
 
 /// Whether the command is that one, on the table with this index and this tree.
@@ -189,7 +223,8 @@ fn is_meant(
         Meant::Select(shape) => is_select(alloc, command, tree, shape),
         Meant::Insert => is_insert(alloc, command, index),
         Meant::Put => is_put(alloc, command, index, tree),
-        Meant::Remove => is_remove(alloc, command, index, tree),
+        Meant::Replace => is_replace(alloc, command, index, tree),
+        Meant::Remove(filter) => is_removal(alloc, command, index, tree, filter),
     }
 }
 
@@ -214,26 +249,32 @@ fn is_statement(
     is_it
 }
 
+/// Whether the text is the query of that shape under the schema, with so many parameters.
+fn is_shown(
+    alloc: Global,
+    schema: &Schema,
+    sql: &str,
+    count: usize,
+    tree: u32,
+    shape: &Shape<'_>,
+) -> Result<bool, AllocError>
+    ensures { IfOk result (λ yes. IsTrue yes ↔ IsSelect schema.now sql.now count (expected_query tree shape.now)) }
+{
+    is_statement(alloc, schema, sql, count, 0, tree, Meant::Select(shape))
+}
+
 /// Whether the text that finds a record does so.
 fn finds(alloc: Global, schema: &Schema, tree: u32) -> Result<bool, AllocError>
     ensures { IfOk result (λ yes. IsTrue yes ↔ IsSelect schema.now find_text 2 (find_query tree)) }
 {
     let shape = Shape {
         filter: &[Expected::Equal(1, 0), Expected::Equal(2, 1)],
-        project: &[Expected::Column(1, 3)],
+        project: &[Expected::Column(1, 0), Expected::Column(1, 3)],
         order: &[],
         limit: None,
         counted: false,
     };
-    is_statement(
-        alloc,
-        schema,
-        texts::FIND,
-        2,
-        0,
-        tree,
-        Meant::Select(&shape),
-    )
+    is_shown(alloc, schema, texts::FIND, 2, tree, &shape)
 }
 
 /// Whether the text that lists the records under a name does so.
@@ -247,15 +288,7 @@ fn lists(alloc: Global, schema: &Schema, tree: u32) -> Result<bool, AllocError>
         limit: None,
         counted: false,
     };
-    is_statement(
-        alloc,
-        schema,
-        texts::LIST,
-        1,
-        0,
-        tree,
-        Meant::Select(&shape),
-    )
+    is_shown(alloc, schema, texts::LIST, 1, tree, &shape)
 }
 
 /// Whether the text that counts the records under a name does so.
@@ -269,15 +302,7 @@ fn counts(alloc: Global, schema: &Schema, tree: u32) -> Result<bool, AllocError>
         limit: None,
         counted: true,
     };
-    is_statement(
-        alloc,
-        schema,
-        texts::COUNT,
-        1,
-        0,
-        tree,
-        Meant::Select(&shape),
-    )
+    is_shown(alloc, schema, texts::COUNT, 1, tree, &shape)
 }
 
 /// Whether the text that lists the first records under a name after a key does so.
@@ -291,15 +316,7 @@ fn pages(alloc: Global, schema: &Schema, tree: u32) -> Result<bool, AllocError>
         limit: Some(2),
         counted: false,
     };
-    is_statement(
-        alloc,
-        schema,
-        texts::PAGE,
-        3,
-        0,
-        tree,
-        Meant::Select(&shape),
-    )
+    is_shown(alloc, schema, texts::PAGE, 3, tree, &shape)
 }
 
 /// Whether the text that shows all records does so.
@@ -318,25 +335,29 @@ fn scans(alloc: Global, schema: &Schema, tree: u32) -> Result<bool, AllocError>
         limit: None,
         counted: false,
     };
-    is_statement(
-        alloc,
-        schema,
-        texts::SCAN,
-        0,
-        0,
-        tree,
-        Meant::Select(&shape),
-    )
+    is_shown(alloc, schema, texts::SCAN, 0, tree, &shape)
 }
 
 /// Whether the texts that write records do so.
 fn are_writes(alloc: Global, schema: &Schema, index: usize, tree: u32) -> Result<bool, AllocError>
     ensures { IfOk result (λ yes. IsTrue yes ↔ AreWrites schema.now index tree) }
 {
+    let removed = Meant::Remove(&[Expected::Equal(1, 0), Expected::Equal(2, 1)]);
+    let taken = Meant::Remove(&[Expected::Equal(0, 0)]);
     Ok(
         is_statement(alloc, schema, texts::INSERT, 3, index, tree, Meant::Insert)?
             && is_statement(alloc, schema, texts::PUT, 3, index, tree, Meant::Put)?
-            && is_statement(alloc, schema, texts::REMOVE, 2, index, tree, Meant::Remove)?,
+            && is_statement(
+                alloc,
+                schema,
+                texts::REPLACE,
+                2,
+                index,
+                tree,
+                Meant::Replace,
+            )?
+            && is_statement(alloc, schema, texts::REMOVE, 2, index, tree, removed)?
+            && is_statement(alloc, schema, texts::TAKE, 1, index, tree, taken)?,
     )
 }
 

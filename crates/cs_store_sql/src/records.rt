@@ -1,17 +1,15 @@
 //! The table of records, one statement at a time: a record has the name of a table, a key and a
 //! value. A call that is refused leaves the database as it was, or takes it back to its last commit.
-ghost use Rattle.std.specs.Prelude.{◌≡◌, ◌<◌, ◌^◌, ℕ, ◌∷◌, IfSome, [], Some, None, option_map, map, IsTrue, IfOk, IfErr, OnOk, OnErr};
+ghost use Rattle.std.specs.Prelude.{◌≡◌, ◌<◌, ◌^◌, ℕ, ◌∷◌, IfSome, [], Some, None, option_map, map, IsTrue, IfOk, IfErr, OnOk, OnErr, true};
 ghost use Rattle.sqlite.specs.State.{FailsToQuery, HasCleanDisk, IsUnchanged, KeepsCommit, Shown, Survives};
 ghost use Rattle.sqlite.specs.Held.{state};
 ghost use Rattle.sqlite_sql.specs.Aggregate.{count};
 ghost use Rattle.sqlite.specs.Values.{bound};
+ghost use Rattle.cs_store_sql.specs.Failing.{CannotCreate, CannotMake, CannotRead, EndsAs, FailsAt, IsFailure};
+ghost use Rattle.cs_store_sql.specs.Failing.{ChangesNothing, KeepsCrashInside, ReadFails, RefusalRests, puts, put_at, remove_at};
 ghost use Rattle.cs_store_sql.specs.Faults.{not_unique};
-ghost use Rattle.cs_store_sql.specs.Failing.{CannotCreate, CannotMake, CannotRead, EndsAs, FailsAt, IsFailure, puts, removes};
-ghost use Rattle.cs_store_sql.specs.Records.{DeclaresRecords, HoldsRecords, Sets, ListsTable, ListsPage, Counts};
-ghost use Rattle.cs_store_sql.specs.Records.{records_in, Makes, Rests, GoesOn, KeepsCrash};
-ghost use Rattle.cs_store_sql.specs.Records.{IsQuery, shown_keyed};
-ghost use Rattle.cs_store_sql.specs.Records.{LacksRecords, KeepsOthers, record_rows};
-ghost use Rattle.cs_store_sql.specs.Statements.{put_text as text_that_puts};
+ghost use Rattle.cs_store_sql.specs.Records.{HoldsRecords, IsAt, IsPlaced, Sets, ListsTable, ListsPage, Counts, records_in};
+ghost use Rattle.cs_store_sql.specs.Records.{Makes, GoesOn, KeepsCrash, IsQuery, shown_keyed, LacksRecords, KeepsOthers, record_rows};
 
 use crate::fault::RecordsError;
 use crate::layout::{Declaration, declaration_of};
@@ -38,6 +36,29 @@ impl Model for Keyed {
     ghost view = { λ r. (r.key.items, r.value.items) };
 }
 
+/// The value of a record, and the number of its row.
+#[derive(Debug, Drop)]
+pub struct Found {
+    pub rowid: i64,
+    pub value: Vec<u8>,
+}
+
+impl Model for Found {
+    ghost use Rattle.std.specs.Prelude.{List, ℕ, ℤ};
+
+    ghost Value = { ℤ × List ℕ };
+
+    ghost view = { λ r. (r.rowid, r.value.items) };
+}
+
+/// Where the row of a record is, as far as is known.
+#[derive(Clone, Copy, Debug)]
+pub enum Place {
+    Unknown,
+    /// In the row with this number.
+    At(i64),
+}
+
 /// The rows that a text shows which asks for nothing but rows.
 fn query_rows<S: Alter>(
     conn: &mut Connection<S>,
@@ -48,10 +69,8 @@ fn query_rows<S: Alter>(
     ensures shown { HasCleanDisk (state S.Store conn.new)
         → IfOk result (λ rows. Shown sql.now (bound params.now) (state S.Store conn.old)
         (state S.Store conn.new) rows.items) }
-    ensures reads { HasCleanDisk (state S.Store conn.new)
-        → OnOk result (IsUnchanged (state S.Store conn.old) (state S.Store conn.new)) }
-    ensures rests { HasCleanDisk (state S.Store conn.new)
-        → OnErr result (Rests (state S.Store conn.old) (state S.Store conn.new)) }
+    ensures reads { ChangesNothing (state S.Store conn.old) (state S.Store conn.new) result }
+    ensures rests { RefusalRests (state S.Store conn.old) (state S.Store conn.new) result }
     ensures failed { HasCleanDisk (state S.Store conn.new) → IfErr result (IsFailure
         (FailsToQuery sql.now (bound params.now) (state S.Store conn.old) (state S.Store conn.new))) }
     ensures keeps_crash { KeepsCrash (state S.Store conn.old) (state S.Store conn.new) }
@@ -59,18 +78,18 @@ fn query_rows<S: Alter>(
     Ok(conn.query_all(sql, params)?)
 }
 
-/// The value of the record under a table's name and a key.
+/// The value of the record under a table's name and a key, and the number of its row.
 pub fn find_record<S: Alter>(
     conn: &mut Connection<S>,
     tab: &str,
     key: &[u8],
-) -> Result<Option<Vec<u8>>, RecordsError>
+) -> Result<Option<Found>, RecordsError>
     ensures found { HasCleanDisk (state S.Store conn.new) → HoldsRecords (state S.Store conn.old).now
-        → IfOk result (λ o. option_map (λ v. v.items) o ≡ records_in (state S.Store conn.old).now tab.now key.now) }
-    ensures reads { HasCleanDisk (state S.Store conn.new)
-        → OnOk result (IsUnchanged (state S.Store conn.old) (state S.Store conn.new)) }
-    ensures rests { HasCleanDisk (state S.Store conn.new)
-        → OnErr result (Rests (state S.Store conn.old) (state S.Store conn.new)) }
+        → IfOk result (λ o. option_map (λ f. f.1) o ≡ records_in (state S.Store conn.old).now tab.now key.now) }
+    ensures at { HasCleanDisk (state S.Store conn.new) → HoldsRecords (state S.Store conn.old).now
+        → IfOk result (λ o. IfSome o (λ f. IsAt (state S.Store conn.old).now tab.now key.now f.0)) }
+    ensures reads { ChangesNothing (state S.Store conn.old) (state S.Store conn.new) result }
+    ensures rests { RefusalRests (state S.Store conn.old) (state S.Store conn.new) result }
     ensures failed { HasCleanDisk (state S.Store conn.new)
         → (IsTrue (state S.Store conn.old).is_open → HoldsRecords (state S.Store conn.old).now)
         → IfErr result (IsFailure (CannotRead (state S.Store conn.old) (state S.Store conn.new))) }
@@ -78,79 +97,111 @@ pub fn find_record<S: Alter>(
 {
     let rows = query_rows(conn, texts::FIND, params![tab, key])?;
     match rows.first() {
-        Some(row) => Ok(Some(row.get(0)?)),
+        Some(row) => Ok(Some(Found {
+            rowid: row.get(0)?,
+            value: row.get(1)?,
+        })),
         None => Ok(None),
     }
 }
 
-/// The text that puts a record: a new one, which is refused where one is there, or one in place of that which is there.
-fn put_text(is_new: bool) -> &'static str
-    ensures { result.now ≡ text_that_puts is_new }
-{
-    if is_new { texts::INSERT } else { texts::PUT }
-}
-
-/// Puts the value under a table's name and a key, inside a transaction: as a new record, which the database refuses as
-/// not unique where one is there, or in place of that.
-pub fn put_record<S: Alter>(
+/// Adds the value under a table's name and a key, inside a transaction. The database refuses it as not unique, and
+/// nothing changes, where a record has them.
+pub fn add_record<S: Alter>(
     conn: &mut Connection<S>,
     tab: &str,
     key: &[u8],
     value: &[u8],
-    is_new: bool,
 ) -> Result<(), RecordsError>
-    ensures new { HasCleanDisk (state S.Store conn.new) → HoldsRecords (state S.Store conn.old).now
-        → OnOk result (IsTrue is_new → records_in (state S.Store conn.old).now tab.now key.now ≡ None) }
+    ensures free { HasCleanDisk (state S.Store conn.new) → HoldsRecords (state S.Store conn.old).now
+        → OnOk result (records_in (state S.Store conn.old).now tab.now key.now ≡ None) }
     ensures set { HasCleanDisk (state S.Store conn.new) → HoldsRecords (state S.Store conn.old).now
         → OnOk result (Sets (state S.Store conn.old).now (state S.Store conn.new).now
         tab.now key.now (Some value.now)) }
     ensures ends { HasCleanDisk (state S.Store conn.new) → HoldsRecords (state S.Store conn.old).now
-        → OnOk result (EndsAs (state S.Store conn.old) (puts is_new tab.now key.now value.now)
+        → OnOk result (EndsAs (state S.Store conn.old) (puts true tab.now key.now value.now)
         (state S.Store conn.new)) }
     ensures goes_on { HasCleanDisk (state S.Store conn.new) → HoldsRecords (state S.Store conn.old).now
         → IsTrue (state S.Store conn.old).in_transaction
         → OnOk result (GoesOn (state S.Store conn.old) (state S.Store conn.new)) }
     ensures marks { HasCleanDisk (state S.Store conn.new) → HoldsRecords (state S.Store conn.old).now
         → OnOk result ((state S.Store conn.new).marks ≡ (state S.Store conn.old).marks) }
-    ensures rests { HasCleanDisk (state S.Store conn.new)
-        → OnErr result (Rests (state S.Store conn.old) (state S.Store conn.new)) }
+    ensures rests { RefusalRests (state S.Store conn.old) (state S.Store conn.new) result }
     ensures refused { HasCleanDisk (state S.Store conn.new) → IfErr result (λ e. e ≡ not_unique
         → IsUnchanged (state S.Store conn.old) (state S.Store conn.new)) }
-    ensures failed { HasCleanDisk (state S.Store conn.new) → IfErr result
-        (IsFailure (FailsAt (state S.Store conn.old) (state S.Store conn.new) (puts is_new tab.now key.now value.now))) }
+    ensures failed { HasCleanDisk (state S.Store conn.new) → IfErr result (IsFailure (FailsAt
+        (state S.Store conn.old) (state S.Store conn.new) (puts true tab.now key.now value.now))) }
     ensures was_clean { HasCleanDisk (state S.Store conn.new) → HasCleanDisk (state S.Store conn.old) }
-    ensures survives { (HasCleanDisk (state S.Store conn.old) → HoldsRecords (state S.Store conn.old).now)
-        → (HasCleanDisk (state S.Store conn.old) → IsTrue (state S.Store conn.old).in_transaction)
-        → KeepsCrash (state S.Store conn.old) (state S.Store conn.new) }
+    ensures survives { KeepsCrashInside (state S.Store conn.old) (state S.Store conn.new) }
 {
-    conn.execute(put_text(is_new), params![tab, key, value])?;
+    conn.execute(texts::INSERT, params![tab, key, value])?;
     Ok(())
 }
 
-/// Removes the record under a table's name and a key, if there is one, inside a transaction.
-pub fn remove_record<S: Alter>(
+/// Puts the value under a table's name and a key, inside a transaction. If it is known where their row is, none is
+/// looked for.
+pub fn put_record<S: Alter>(
     conn: &mut Connection<S>,
     tab: &str,
     key: &[u8],
+    value: &[u8],
+    place: Place,
 ) -> Result<(), RecordsError>
-    ensures removed { HasCleanDisk (state S.Store conn.new) → HoldsRecords (state S.Store conn.old).now
-        → OnOk result (Sets (state S.Store conn.old).now (state S.Store conn.new).now tab.now key.now None) }
+    requires { HasCleanDisk (state S.Store conn.old) → HoldsRecords (state S.Store conn.old).now
+        → IsPlaced (state S.Store conn.old).now tab.now key.now place }
+    ensures set { HasCleanDisk (state S.Store conn.new) → HoldsRecords (state S.Store conn.old).now
+        → OnOk result (Sets (state S.Store conn.old).now (state S.Store conn.new).now
+        tab.now key.now (Some value.now)) }
     ensures ends { HasCleanDisk (state S.Store conn.new) → HoldsRecords (state S.Store conn.old).now
-        → OnOk result (EndsAs (state S.Store conn.old) (removes tab.now key.now) (state S.Store conn.new)) }
+        → OnOk result (EndsAs (state S.Store conn.old) (put_at place tab.now key.now value.now)
+        (state S.Store conn.new)) }
     ensures goes_on { HasCleanDisk (state S.Store conn.new) → HoldsRecords (state S.Store conn.old).now
         → IsTrue (state S.Store conn.old).in_transaction
         → OnOk result (GoesOn (state S.Store conn.old) (state S.Store conn.new)) }
     ensures marks { HasCleanDisk (state S.Store conn.new) → HoldsRecords (state S.Store conn.old).now
         → OnOk result ((state S.Store conn.new).marks ≡ (state S.Store conn.old).marks) }
-    ensures rests { HasCleanDisk (state S.Store conn.new)
-        → OnErr result (Rests (state S.Store conn.old) (state S.Store conn.new)) }
+    ensures rests { RefusalRests (state S.Store conn.old) (state S.Store conn.new) result }
     ensures failed { HasCleanDisk (state S.Store conn.new) → IfErr result
-        (IsFailure (FailsAt (state S.Store conn.old) (state S.Store conn.new) (removes tab.now key.now))) }
-    ensures survives { (HasCleanDisk (state S.Store conn.old) → HoldsRecords (state S.Store conn.old).now)
-        → (HasCleanDisk (state S.Store conn.old) → IsTrue (state S.Store conn.old).in_transaction)
-        → KeepsCrash (state S.Store conn.old) (state S.Store conn.new) }
+        (IsFailure (FailsAt (state S.Store conn.old) (state S.Store conn.new) (put_at place tab.now key.now value.now))) }
+    ensures was_clean { HasCleanDisk (state S.Store conn.new) → HasCleanDisk (state S.Store conn.old) }
+    ensures survives { KeepsCrashInside (state S.Store conn.old) (state S.Store conn.new) }
 {
-    conn.execute(texts::REMOVE, params![tab, key])?;
+    match place {
+        Place::Unknown => conn.execute(texts::PUT, params![tab, key, value])?,
+        Place::At(rowid) => conn.execute(texts::REPLACE, params![value, rowid])?,
+    };
+    Ok(())
+}
+
+/// Removes the record under a table's name and a key, if there is one, inside a transaction. If it is known where its
+/// row is, none is looked for.
+pub fn remove_record<S: Alter>(
+    conn: &mut Connection<S>,
+    tab: &str,
+    key: &[u8],
+    place: Place,
+) -> Result<(), RecordsError>
+    requires { HasCleanDisk (state S.Store conn.old) → HoldsRecords (state S.Store conn.old).now
+        → IsPlaced (state S.Store conn.old).now tab.now key.now place }
+    ensures removed { HasCleanDisk (state S.Store conn.new) → HoldsRecords (state S.Store conn.old).now
+        → OnOk result (Sets (state S.Store conn.old).now (state S.Store conn.new).now tab.now key.now None) }
+    ensures ends { HasCleanDisk (state S.Store conn.new) → HoldsRecords (state S.Store conn.old).now
+        → OnOk result (EndsAs (state S.Store conn.old) (remove_at place tab.now key.now) (state S.Store conn.new)) }
+    ensures goes_on { HasCleanDisk (state S.Store conn.new) → HoldsRecords (state S.Store conn.old).now
+        → IsTrue (state S.Store conn.old).in_transaction
+        → OnOk result (GoesOn (state S.Store conn.old) (state S.Store conn.new)) }
+    ensures marks { HasCleanDisk (state S.Store conn.new) → HoldsRecords (state S.Store conn.old).now
+        → OnOk result ((state S.Store conn.new).marks ≡ (state S.Store conn.old).marks) }
+    ensures rests { RefusalRests (state S.Store conn.old) (state S.Store conn.new) result }
+    ensures failed { HasCleanDisk (state S.Store conn.new) → IfErr result
+        (IsFailure (FailsAt (state S.Store conn.old) (state S.Store conn.new) (remove_at place tab.now key.now))) }
+    ensures was_clean { HasCleanDisk (state S.Store conn.new) → HasCleanDisk (state S.Store conn.old) }
+    ensures survives { KeepsCrashInside (state S.Store conn.old) (state S.Store conn.new) }
+{
+    match place {
+        Place::At(rowid) => conn.execute(texts::TAKE, params![rowid])?,
+        Place::Unknown => conn.execute(texts::REMOVE, params![tab, key])?,
+    };
     Ok(())
 }
 
@@ -183,13 +234,9 @@ pub fn list_records<S: Alter>(
 ) -> Result<Vec<Keyed>, RecordsError>
     ensures listed { HasCleanDisk (state S.Store conn.new) → HoldsRecords (state S.Store conn.old).now
         → IfOk result (λ listed. ListsTable (records_in (state S.Store conn.old).now) tab.now listed.items) }
-    ensures reads { HasCleanDisk (state S.Store conn.new)
-        → OnOk result (IsUnchanged (state S.Store conn.old) (state S.Store conn.new)) }
-    ensures rests { HasCleanDisk (state S.Store conn.new)
-        → OnErr result (Rests (state S.Store conn.old) (state S.Store conn.new)) }
-    ensures failed { HasCleanDisk (state S.Store conn.new)
-        → (IsTrue (state S.Store conn.old).is_open → DeclaresRecords (state S.Store conn.old).now.schema)
-        → IfErr result (IsFailure (CannotRead (state S.Store conn.old) (state S.Store conn.new))) }
+    ensures reads { ChangesNothing (state S.Store conn.old) (state S.Store conn.new) result }
+    ensures rests { RefusalRests (state S.Store conn.old) (state S.Store conn.new) result }
+    ensures failed { ReadFails (state S.Store conn.old) (state S.Store conn.new) result }
     ensures keeps_crash { KeepsCrash (state S.Store conn.old) (state S.Store conn.new) }
 {
     let rows = query_rows(conn, texts::LIST, params![tab])?;
@@ -213,13 +260,9 @@ fn number_in(rows: &[Row]) -> Option<u64>
 pub fn count_records<S: Alter>(conn: &mut Connection<S>, tab: &str) -> Result<u64, RecordsError>
     ensures counted { HasCleanDisk (state S.Store conn.new) → HoldsRecords (state S.Store conn.old).now
         → IfOk result (Counts (records_in (state S.Store conn.old).now) tab.now) }
-    ensures reads { HasCleanDisk (state S.Store conn.new)
-        → OnOk result (IsUnchanged (state S.Store conn.old) (state S.Store conn.new)) }
-    ensures rests { HasCleanDisk (state S.Store conn.new)
-        → OnErr result (Rests (state S.Store conn.old) (state S.Store conn.new)) }
-    ensures failed { HasCleanDisk (state S.Store conn.new)
-        → (IsTrue (state S.Store conn.old).is_open → DeclaresRecords (state S.Store conn.old).now.schema)
-        → IfErr result (IsFailure (CannotRead (state S.Store conn.old) (state S.Store conn.new))) }
+    ensures reads { ChangesNothing (state S.Store conn.old) (state S.Store conn.new) result }
+    ensures rests { RefusalRests (state S.Store conn.old) (state S.Store conn.new) result }
+    ensures failed { ReadFails (state S.Store conn.old) (state S.Store conn.new) result }
     ensures keeps_crash { KeepsCrash (state S.Store conn.old) (state S.Store conn.new) }
 {
     let rows = query_rows(conn, texts::COUNT, params![tab])?;
@@ -241,13 +284,9 @@ pub fn list_page<S: Alter>(
     ensures listed { HasCleanDisk (state S.Store conn.new) → HoldsRecords (state S.Store conn.old).now
         → IfOk result (λ listed. ListsPage (records_in (state S.Store conn.old).now) tab.now
         after.now limit listed.items) }
-    ensures reads { HasCleanDisk (state S.Store conn.new)
-        → OnOk result (IsUnchanged (state S.Store conn.old) (state S.Store conn.new)) }
-    ensures rests { HasCleanDisk (state S.Store conn.new)
-        → OnErr result (Rests (state S.Store conn.old) (state S.Store conn.new)) }
-    ensures failed { HasCleanDisk (state S.Store conn.new)
-        → (IsTrue (state S.Store conn.old).is_open → DeclaresRecords (state S.Store conn.old).now.schema)
-        → IfErr result (IsFailure (CannotRead (state S.Store conn.old) (state S.Store conn.new))) }
+    ensures reads { ChangesNothing (state S.Store conn.old) (state S.Store conn.new) result }
+    ensures rests { RefusalRests (state S.Store conn.old) (state S.Store conn.new) result }
+    ensures failed { ReadFails (state S.Store conn.old) (state S.Store conn.new) result }
     ensures keeps_crash { KeepsCrash (state S.Store conn.old) (state S.Store conn.new) }
 {
     let rows = query_rows(conn, texts::PAGE, params![tab, after, limit as i64])?;

@@ -1,11 +1,10 @@
 //! One pass over all records: each is tested where it lies in its row.
-ghost use Rattle.std.specs.Prelude.{◌≡◌, ◌↔◌, ◌<ℤ◌, ℤ, List, ℕ, false, IsTrue, IfOk, IfSome, MatchOption, IfErr, OnOk, OnErr};
+ghost use Rattle.std.specs.Prelude.{◌≡◌, ◌↔◌, ◌<ℤ◌, ℤ, List, ℕ, false, IsTrue, IfOk, IfSome, MatchOption, IfErr};
 ghost use Rattle.sqlite_value.specs.Order.{column};
-ghost use Rattle.sqlite.specs.State.{HasCleanDisk, IsUnchanged, Survives};
+ghost use Rattle.sqlite.specs.State.{HasCleanDisk, Survives};
 ghost use Rattle.sqlite.specs.Held.{state};
-ghost use Rattle.cs_store_sql.specs.Records.{content, record_of, record_rows, DeclaresRecords, HasNumberAbove, Pass};
-ghost use Rattle.cs_store_sql.specs.Failing.{CannotRead, IsFailure};
-ghost use Rattle.cs_store_sql.specs.Records.{Rests, KeepsCrash};
+ghost use Rattle.cs_store_sql.specs.Records.{content, record_of, record_rows, DeclaresRecords, HasNumberAbove, KeepsCrash, Pass};
+ghost use Rattle.cs_store_sql.specs.Failing.{CannotRead, ChangesNothing, IsFailure, RefusalRests};
 
 use crate::fault::RecordsError;
 use crate::texts;
@@ -84,10 +83,8 @@ pub fn all_pass<S: Alter, T: RecordTest>(
         → IfOk result (λ yes. IsTrue yes → Pass (T.passes test.now) (record_rows (state S.Store conn.old).now)) }
     ensures failed { HasCleanDisk (state S.Store conn.new) → DeclaresRecords (state S.Store conn.old).now.schema
         → IfOk result (λ yes. yes ≡ false → ¬ Pass (T.passes test.now) (record_rows (state S.Store conn.old).now)) }
-    ensures reads { HasCleanDisk (state S.Store conn.new)
-        → OnOk result (IsUnchanged (state S.Store conn.old) (state S.Store conn.new)) }
-    ensures rests { HasCleanDisk (state S.Store conn.new)
-        → OnErr result (Rests (state S.Store conn.old) (state S.Store conn.new)) }
+    ensures reads { ChangesNothing (state S.Store conn.old) (state S.Store conn.new) result }
+    ensures rests { RefusalRests (state S.Store conn.old) (state S.Store conn.new) result }
     ensures caused { HasCleanDisk (state S.Store conn.new) → DeclaresRecords (state S.Store conn.old).now.schema
         → IfErr result (IsFailure (CannotRead (state S.Store conn.old) (state S.Store conn.new))) }
     ensures keeps_crash { KeepsCrash (state S.Store conn.old) (state S.Store conn.new) }

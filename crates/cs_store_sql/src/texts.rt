@@ -1,6 +1,7 @@
 //! The texts of SQL that read and write records.
 
-pub(crate) const FIND: &str = "SELECT rowb FROM rec WHERE tab = ?1 AND keyb = ?2";
+/// The number of the row of a record, and its value.
+pub(crate) const FIND: &str = "SELECT rowid, rowb FROM rec WHERE tab = ?1 AND keyb = ?2";
 
 pub(crate) const LIST: &str = "SELECT keyb, rowb FROM rec WHERE tab = ?1 ORDER BY keyb";
 
@@ -19,7 +20,13 @@ pub(crate) const INSERT: &str = "INSERT INTO rec VALUES(?1, ?2, ?3)";
 pub(crate) const PUT: &str =
     "INSERT INTO rec VALUES(?1, ?2, ?3) ON CONFLICT(tab, keyb) DO UPDATE SET rowb = ?3";
 
+/// Replaces the value in the row with a number.
+pub(crate) const REPLACE: &str = "UPDATE rec SET rowb = ?1 WHERE rowid = ?2";
+
 pub(crate) const REMOVE: &str = "DELETE FROM rec WHERE tab = ?1 AND keyb = ?2";
+
+/// Removes the row with a number.
+pub(crate) const TAKE: &str = "DELETE FROM rec WHERE rowid = ?1";
 
 pub(crate) const CREATE: &str =
     "CREATE TABLE IF NOT EXISTS rec(tab TEXT NOT NULL, keyb BLOB NOT NULL, rowb BLOB NOT NULL, PRIMARY KEY(tab, keyb)) STRICT";

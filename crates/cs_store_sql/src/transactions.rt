@@ -3,7 +3,7 @@ ghost use Rattle.std.specs.Prelude.{◌≡◌, ◌⊎◌, true, false, List, IsT
 ghost use Rattle.sqlite.specs.Effect.{Database};
 ghost use Rattle.sqlite.specs.State.{HasCleanDisk, Savepoint, Shows, Survives};
 ghost use Rattle.sqlite.specs.Held.{state};
-ghost use Rattle.cs_store_sql.specs.Failing.{HasDiskFailed, IsFailure, IsMisplaced};
+ghost use Rattle.cs_store_sql.specs.Failing.{HasDiskFailed, IsFailure, IsMisplaced, RefusalUndoes};
 ghost use Rattle.cs_store_sql.specs.Marks.{HasMark, IsMarked};
 ghost use Rattle.cs_store_sql.specs.Records.{IsUndone, KeepsContent, KeepsCrash};
 
@@ -38,8 +38,7 @@ pub fn commit<S: Alter>(conn: &mut Connection<S>) -> Result<(), RecordsError>
         → OnOk result (IsTrue (state S.Store conn.old).in_transaction
         × Shows (state S.Store conn.old) (state S.Store conn.new)
         (state S.Store conn.old).now (state S.Store conn.old).now false) }
-    ensures undone { HasCleanDisk (state S.Store conn.new)
-        → OnErr result (IsUndone (state S.Store conn.old) (state S.Store conn.new)) }
+    ensures undone { RefusalUndoes (state S.Store conn.old) (state S.Store conn.new) result }
     ensures failed { HasCleanDisk (state S.Store conn.new)
         → IfErr result (IsFailure (λ error. IsMisplaced ((state S.Store conn.old).in_transaction ≡ false) error
         ⊎ HasDiskFailed (state S.Store conn.old) (state S.Store conn.new) error)) }
@@ -71,8 +70,7 @@ pub fn mark<S: Alter>(conn: &mut Connection<S>) -> Result<(), RecordsError>
         × Shows (state S.Store conn.old) (state S.Store conn.new)
         (state S.Store conn.old).now (state S.Store conn.old).committed true
         × IsMarked (state S.Store conn.old).marks (state S.Store conn.old).now (state S.Store conn.new)) }
-    ensures undone { HasCleanDisk (state S.Store conn.new)
-        → OnErr result (IsUndone (state S.Store conn.old) (state S.Store conn.new)) }
+    ensures undone { RefusalUndoes (state S.Store conn.old) (state S.Store conn.new) result }
     ensures failed { HasCleanDisk (state S.Store conn.new)
         → IfErr result (IsFailure (λ error. IsMisplaced ((state S.Store conn.old).in_transaction ≡ false) error
         ⊎ HasDiskFailed (state S.Store conn.old) (state S.Store conn.new) error)) }

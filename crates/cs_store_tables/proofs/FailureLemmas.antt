@@ -1,7 +1,7 @@
 -- For which causes a call on a store fails.
-use Rattle.std.proofs.Common.{◌≡◌, inl, inr, ℕ, [], false, Result, Ok, Err, IfErr, OnOk, sym, subst, MatchResult, IsErrAnd, IsTrue, refl, List, None, true, true≢false, ap, ◌∙◌, Bool}
-use Rattle.cs_store_tables.specs.Failing.{IsMade, LeadsOn, WriteFails, BatchFails, IsDeclarationOf, IsCauseOf, ReadFails, IsApt, IsAptFor, PutFails, RemoveFails, Writes}
-use Rattle.cs_store_sql.specs.Failing.{Statement, CannotWrite, FailsAt, IsFailure, CannotRead, puts, EndsAs, LeadsTo, itself, by_each, removes}
+use Rattle.std.proofs.Common.{◌≡◌, inl, inr, ℕ, [], false, Result, Ok, Err, IfErr, OnOk, sym, subst, MatchResult, IsErrAnd, IsTrue, refl, List, true, true≢false, ap, None, ◌∙◌}
+use Rattle.cs_store_tables.specs.Failing.{IsMade, LeadsOn, WriteFails, BatchFails, IsDeclarationOf, IsCauseOf, ReadFails, IsApt, IsAptFor, IsStatementOf, PutFails, RemoveFails, Writes}
+use Rattle.cs_store_sql.specs.Failing.{Statement, CannotWrite, FailsAt, IsFailure, CannotRead, puts, replaces, removes, takes, EndsAs, LeadsTo, itself, by_each, put_at, remove_at}
 use Rattle.cs_store_sql.specs.Faults.{not_unique}
 use Rattle.cs_store_sql.proofs.StatementLemmas.{not_of_store}
 use Rattle.cs_store_sql.proofs.WriteFailures.{write_fails}
@@ -13,7 +13,9 @@ use Rattle.cs_rows.specs.declared.fault.StoreError.{StoreError}
 use Rattle.cs_rows.specs.Faults.{IsCaused, IsReadRefusal, is_answered}
 use Rattle.cs_store_sql.specs.declared.fault.RecordsError.{RecordsError}
 use Rattle.cs_store_sql.specs.declared.fault.RecordsError.TheVariants.{NoMemory, Database}
-use Rattle.cs_store_sql.specs.Records.{DeclaresRecords, HoldsRecords, KeepsCrash, records_in, GoesOn}
+use Rattle.cs_store_sql.specs.declared.records.Place.{Place}
+use Rattle.cs_store_sql.specs.declared.records.Place.TheVariants as places
+use Rattle.cs_store_sql.specs.Records.{DeclaresRecords, HoldsRecords, IsPlaced, KeepsCrash, GoesOn, records_in}
 use Rattle.cs_value.specs.declared.value.OwnedValue.{OwnedValue}
 use Rattle.cs_value.specs.Spelling.{row_bytes}
 use Rattle.cs_store_encoding.specs.Declaration.{declaration_bytes}
@@ -51,10 +53,12 @@ pub declared : (s : State) → IsSound s → HasCleanDisk s → IsTrue s.is_open
 declared s sound clean is = ((sound clean).now is).records.declares
 
 -- a statement that a store makes is refused as one
-pub apt_for : (db : Shown) (statement : Statement) (e : Error) → IsApt db statement → IsAptFor db statement e
+apt_for : (db : Shown) (statement : Statement) (e : Error) → IsApt db statement → IsAptFor db statement e
 apt_for db (puts true tab key value) e apt = λ same. apt
 apt_for db (puts false tab key value) e apt = apt
+apt_for db (replaces number tab key value) e apt = apt
 apt_for db (removes tab key) e apt = apt
+apt_for db (takes number tab key) e apt = apt
 
 -- so the store refuses it for such a cause
 pub write_caused : (old new : State) (statement : Statement) (f : RecordsError) → (IsTrue old.is_open → DeclaresRecords old.now.schema) → ((e : Error) → f ≡ Database e → IsAptFor old.now statement e)
@@ -65,12 +69,12 @@ write_caused old new statement (Database e) known apt fails =
 
 -- and so where its refusal is that of the store
 pub caused_write : {X : Type 0} (Q : RecordsError → StoreError → Type 0) (old new : State) (statement : Statement) (answer : Result X RecordsError) (result : Result X StoreError)
-    → MatchResult answer (λ x. result ≡ Ok x) (λ f. IsErrAnd result (Q f)) → ((f : RecordsError) (e : StoreError) → Q f e → e ≡ refusal_of f) → (IsTrue old.is_open → DeclaresRecords old.now.schema) → ((e : Error) → answer ≡ Err (Database e) → IsAptFor old.now statement e)
+    → MatchResult answer (λ x. result ≡ Ok x) (λ f. IsErrAnd result (Q f)) → ((f : RecordsError) (e : StoreError) → Q f e → e ≡ refusal_of f) → (IsTrue old.is_open → DeclaresRecords old.now.schema) → IsApt old.now statement
     → IfErr answer (IsFailure (FailsAt old new statement)) → IfErr result (IsCaused (WriteFails old new statement))
 caused_write Q old new statement (Ok x) result is so known apt fails = subst (λ r. IfErr r (IsCaused (WriteFails old new statement))) (sym is) tt
 caused_write Q old new statement (Err f) (Ok x) is so known apt fails = tt
 caused_write Q old new statement (Err f) (Err e) is so known apt fails =
-    subst (IsCaused (WriteFails old new statement)) (sym (so f e is)) (write_caused old new statement f known (λ error same. apt error (ap Err same)) fails)
+    subst (IsCaused (WriteFails old new statement)) (sym (so f e is)) (write_caused old new statement f known (λ error same. apt_for old.now statement error apt) fails)
 
 -- a refusal that is none of the database has each cause
 pub never_caused : (Fails : Cause → Type 0) (e : StoreError) → IsCaused (λ _. ⊥) e → IsCaused Fails e
@@ -82,10 +86,23 @@ pub read_caused : (old new : State) (f : RecordsError) → IsSound old → Keeps
     → IsCaused (ReadFails old new) (refusal_of f)
 read_caused old new f sound crash clean fails = caused (CannotRead old new) f (fails (λ is. ((sound (was_clean old new crash clean)).now is).records))
 
--- a record that is new is put as one
-pub apt : (db : Shown) (is_new : Bool) (tab key value : List ℕ) → (IsTrue is_new → records_in db tab key ≡ None) → IsApt db (puts is_new tab key value)
-apt db true tab key value new = new refl
-apt db false tab key value new = tt
+-- where the row of a record is at that place, it is put and removed by statements that a store makes
+pub apt_put : (db : Shown) (place : Place) (tab key value : List ℕ) → IsPlaced db tab key place → IsApt db (put_at place tab key value)
+apt_put db places.Unknown tab key value placed = tt
+apt_put db (places.At number) tab key value placed = placed
+
+pub apt_removal : (db : Shown) (place : Place) (tab key : List ℕ) → IsPlaced db tab key place → IsApt db (remove_at place tab key)
+apt_removal db places.Unknown tab key placed = tt
+apt_removal db (places.At number) tab key placed = placed
+
+-- they write the record of that write to rows
+is_put : (place : Place) (name key : List ℕ) (row : List OwnedValue) → IsStatementOf (puts_row name key row) (put_at place name key (row_bytes row))
+is_put places.Unknown name key row = (refl, refl, refl)
+is_put (places.At number) name key row = (refl, refl, refl)
+
+is_removal : (place : Place) (name key : List ℕ) → IsStatementOf (removes_row name key) (remove_at place name key)
+is_removal places.Unknown name key = (refl, refl)
+is_removal (places.At number) name key = (refl, refl)
 
 -- ---- of a batch
 
@@ -93,15 +110,15 @@ apt db false tab key value new = tt
 pub put_fails : (old new : State) (name key : List ℕ) (row : List OwnedValue) (why : Cause) → PutFails old new name key row why
     → BatchFails (Writes (λ held write. (held ≡ tables_in old.now) × (write ≡ puts_row name key row))) old new why
 put_fails old new name key row why (inl outside) = inl outside
-put_fails old new name key row why (inr (is_new, (e, other, (apt, inl failed), is))) = inr (e, other, inl (inl failed), is)
-put_fails old new name key row why (inr (is_new, (e, other, (apt, inr refused), is))) = inr (
+put_fails old new name key row why (inr (place, (e, other, (apt, inl failed), is))) = inr (e, other, inl (inl failed), is)
+put_fails old new name key row why (inr (place, (e, other, (apt, inr refused), is))) = inr (
   e,
   other,
   inr (record {
     at = old.now;
     leads = itself;
-    statement = puts is_new name key (row_bytes row);
-    is = (puts_row name key row, (refl, refl, refl), (refl, refl));
+    statement = put_at place name key (row_bytes row);
+    is = (puts_row name key row, is_put place name key row, (refl, refl));
     apt = apt;
     refused = refused;
   }),
@@ -127,18 +144,36 @@ refused_fails old mid new name key row (Database e) same free (other, inr refuse
   refl,
 )
 
-pub remove_fails : (old new : State) (name key : List ℕ) (why : Cause) → RemoveFails old new name key why
-    → BatchFails (Writes (λ held write. (held ≡ tables_in old.now) × (write ≡ removes_row name key))) old new why
-remove_fails old new name key why (inl outside) = inl outside
-remove_fails old new name key why (inr (e, other, (apt, inl failed), is)) = inr (e, other, inl (inl failed), is)
-remove_fails old new name key why (inr (e, other, (apt, inr refused), is)) = inr (
+-- or fails for another reason
+pub add_fails : (old new : State) (name key : List ℕ) (row : List OwnedValue) (why : Cause) → WriteFails old new (puts true name key (row_bytes row)) why
+    → BatchFails (Writes (λ held write. (held ≡ tables_in old.now) × (write ≡ puts_row name key row))) old new why
+add_fails old new name key row why (e, other, (apt, inl failed), is) = inr (e, other, inl (inl failed), is)
+add_fails old new name key row why (e, other, (apt, inr refused), is) = inr (
   e,
   other,
   inr (record {
     at = old.now;
     leads = itself;
-    statement = removes name key;
-    is = (removes_row name key, (refl, refl), (refl, refl));
+    statement = puts true name key (row_bytes row);
+    is = (puts_row name key row, (refl, refl, refl), (refl, refl));
+    apt = apt;
+    refused = refused;
+  }),
+  is,
+)
+
+pub remove_fails : (old new : State) (name key : List ℕ) (why : Cause) → RemoveFails old new name key why
+    → BatchFails (Writes (λ held write. (held ≡ tables_in old.now) × (write ≡ removes_row name key))) old new why
+remove_fails old new name key why (inl outside) = inl outside
+remove_fails old new name key why (inr (place, (e, other, (apt, inl failed), is))) = inr (e, other, inl (inl failed), is)
+remove_fails old new name key why (inr (place, (e, other, (apt, inr refused), is))) = inr (
+  e,
+  other,
+  inr (record {
+    at = old.now;
+    leads = itself;
+    statement = remove_at place name key;
+    is = (removes_row name key, is_removal place name key, (refl, refl));
     apt = apt;
     refused = refused;
   }),
@@ -179,15 +214,15 @@ pub write_leads : (Is : tables.State → Statement → Type 0) (old new : State)
 write_leads Is old new statement is ends on = record { inside = λ was. on.mode; leads = by_each old.now new.now statement ends.0 itself is ends.1 }
 
 -- a row is put, or removed
-pub put_leads : (old new : State) (is_new : Bool) (name key : List ℕ) (row : List OwnedValue) → LeadsOn (λ held statement. (held ≡ tables_in old.now) × (statement ≡ puts is_new name key (row_bytes row))) old new
+pub put_leads : (old new : State) (place : Place) (name key : List ℕ) (row : List OwnedValue) → LeadsOn (λ held statement. (held ≡ tables_in old.now) × (statement ≡ put_at place name key (row_bytes row))) old new
     → LeadsOn (Writes (λ held write. (held ≡ tables_in old.now) × (write ≡ puts_row name key row))) old new
-put_leads old new is_new name key row = leads_so _ _ (λ held statement is.
-    subst (λ (s : Statement). Writes (λ held write. (held ≡ tables_in old.now) × (write ≡ puts_row name key row)) held s) (sym is.1) (puts_row name key row, (refl, refl, refl), (is.0, refl)))
+put_leads old new place name key row = leads_so _ _ (λ held statement is.
+    subst (λ (s : Statement). Writes (λ held write. (held ≡ tables_in old.now) × (write ≡ puts_row name key row)) held s) (sym is.1) (puts_row name key row, is_put place name key row, (is.0, refl)))
 
-pub remove_leads : (old new : State) (name key : List ℕ) → LeadsOn (λ held statement. (held ≡ tables_in old.now) × (statement ≡ removes name key)) old new
+pub remove_leads : (old new : State) (place : Place) (name key : List ℕ) → LeadsOn (λ held statement. (held ≡ tables_in old.now) × (statement ≡ remove_at place name key)) old new
     → LeadsOn (Writes (λ held write. (held ≡ tables_in old.now) × (write ≡ removes_row name key))) old new
-remove_leads old new name key = leads_so _ _ (λ held statement is.
-    subst (λ (s : Statement). Writes (λ held write. (held ≡ tables_in old.now) × (write ≡ removes_row name key)) held s) (sym is.1) (removes_row name key, (refl, refl), (is.0, refl)))
+remove_leads old new place name key = leads_so _ _ (λ held statement is.
+    subst (λ (s : Statement). Writes (λ held write. (held ≡ tables_in old.now) × (write ≡ removes_row name key)) held s) (sym is.1) (removes_row name key, is_removal place name key, (is.0, refl)))
 
 pub on_ok : {X E : Type 0} (r : Result X E) (P : Type 0) → P → OnOk r P
 on_ok (Ok x) P p = p

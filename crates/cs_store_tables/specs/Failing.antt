@@ -1,5 +1,5 @@
 -- For which causes the database of a store fails.
-use Rattle.std.specs.Prelude.{◌≡◌, ◌≢◌, ◌⊎◌, ℕ, Bool, true, false, IsTrue, Option, List, [], None}
+use Rattle.std.specs.Prelude.{◌≡◌, ◌≢◌, ◌⊎◌, ℕ, true, false, IsTrue, Option, List, [], None}
 use Rattle.sqlite_trees.specs.declared.store.Store.{Ghosts}
 use Rattle.sqlite.specs.declared.error.Error.{Error}
 use Rattle.sqlite.specs.declared.error.Error.TheVariants.{SqliteFailure}
@@ -12,12 +12,13 @@ use Rattle.cs_value.specs.declared.value.OwnedValue.{OwnedValue}
 use Rattle.cs_value.specs.Spelling.{row_bytes}
 use Rattle.cs_rows.specs.declared.fault.Cause.{Cause}
 use Rattle.cs_rows.specs.declared.fault.Cause.TheVariants.{Other}
-use Rattle.cs_store_sql.specs.Records.{records_in, record_rows, HoldsRecords, IsUnsupported, KeepsCrash, KeepsOthers, LacksRecords}
+use Rattle.cs_store_sql.specs.declared.records.Place.{Place}
+use Rattle.cs_store_sql.specs.Records.{records_in, record_rows, HoldsRecords, IsAt, IsUnsupported, KeepsCrash, KeepsOthers, LacksRecords}
 use Rattle.cs_rows.specs.Rows.{Write, puts_row, removes_row}
 use Rattle.cs_value.specs.State as tables
 use Rattle.cs_store_encoding.specs.Declaration.{declaration_bytes}
 use Rattle.cs_store_encoding.specs.Stored.{version}
-use Rattle.cs_store_sql.specs.Failing.{Statement, puts, removes, FailsAt, CannotMake, CannotRead, CannotWrite}
+use Rattle.cs_store_sql.specs.Failing.{Statement, puts, replaces, removes, takes, put_at, remove_at, FailsAt, CannotMake, CannotRead, CannotWrite}
 use Rattle.cs_store_sql.specs.Failing.{HasDiskFailed, IsMisplaced, LeadsTo, Refuses}
 use Rattle.cs_store_tables.specs.Refusals.{cause_of}
 use Rattle.cs_store_tables.specs.Store.{tables_in}
@@ -26,11 +27,14 @@ use Rattle.cs_store_tables.specs.Store.{tables_in}
 abbrev pub IsCauseOf : (Error → Type 0) → Cause → Type 0
 IsCauseOf Fails cause = (error : Error) × (error ≢ SqliteFailure OutOfMemory) × Fails error × (cause ≡ cause_of error)
 
--- The statement is one that a store makes: a record is put as a new one only where none is there.
+-- The statement is one that a store makes: a record is put as a new one only where none is there, and replaced or
+-- removed by a number only where that is the number of its row.
 abbrev pub IsApt : Database → Statement → Type 0
 IsApt db (puts true tab key value) = records_in db tab key ≡ None
 IsApt db (puts false tab key value) = Unit {0}
+IsApt db (replaces number tab key value) = IsAt db tab key number
 IsApt db (removes tab key) = Unit {0}
+IsApt db (takes number tab key) = IsAt db tab key number
 
 -- The database refuses a statement that a store makes. Where it refuses a new record as not unique, none is there:
 -- another index refuses it.
@@ -49,13 +53,14 @@ WriteFails old new statement = IsCauseOf (λ error. IsAptFor old.now statement e
 abbrev pub IsOutside : State → Cause → Type 0
 IsOutside s cause = (s.in_transaction ≡ false) × (cause ≡ Other)
 
--- A row is not put, as a new one or in place of another, and a row is not removed.
+-- A row is not put, and not removed, by the statement for a place of the row with its key.
 abbrev pub PutFails : State → State → List ℕ → List ℕ → List OwnedValue → Cause → Type 0
 PutFails old new name key row cause = IsOutside old cause
-    ⊎ ((is_new : Bool) × WriteFails old new (puts is_new name key (row_bytes row)) cause)
+    ⊎ ((place : Place) × WriteFails old new (put_at place name key (row_bytes row)) cause)
 
 abbrev pub RemoveFails : State → State → List ℕ → List ℕ → Cause → Type 0
-RemoveFails old new name key cause = IsOutside old cause ⊎ WriteFails old new (removes name key) cause
+RemoveFails old new name key cause = IsOutside old cause
+    ⊎ ((place : Place) × WriteFails old new (remove_at place name key) cause)
 
 -- A transaction does not begin, where one is open or the disk failed, and does not end, where none is or the disk failed.
 abbrev pub BeginFails : State → State → Cause → Type 0
@@ -77,9 +82,13 @@ ReleaseFails old new = IsCauseOf (HasDiskFailed old new)
 -- The statement writes the record of such a write to rows.
 abbrev pub IsStatementOf : Write → Statement → Type 0
 IsStatementOf (puts_row name key row) (puts is_new tab k value) = (tab ≡ name) × (k ≡ key) × (value ≡ row_bytes row)
+IsStatementOf (puts_row name key row) (replaces number tab k value) = (tab ≡ name) × (k ≡ key) × (value ≡ row_bytes row)
 IsStatementOf (puts_row name key row) (removes tab k) = ⊥
+IsStatementOf (puts_row name key row) (takes number tab k) = ⊥
 IsStatementOf (removes_row name key) (puts is_new tab k value) = ⊥
+IsStatementOf (removes_row name key) (replaces number tab k value) = ⊥
 IsStatementOf (removes_row name key) (removes tab k) = (tab ≡ name) × (k ≡ key)
+IsStatementOf (removes_row name key) (takes number tab k) = (tab ≡ name) × (k ≡ key)
 
 -- The statement writes the record of a write to rows, and `Is` holds of the write and of the tables as they are then.
 abbrev pub Writes : (tables.State → Write → Type 0) → tables.State → Statement → Type 0

@@ -15,7 +15,8 @@ use Rattle.sqlite.specs.Steps.{over_memory}
 use Rattle.sqlite.specs.State.{State, HasCleanDisk, Shows, KeepsCommit}
 use Rattle.cs_rows.specs.declared.fault.StoreError.{StoreError}
 use Rattle.cs_rows.specs.Faults.{IsResource}
-use Rattle.cs_store_sql.specs.Records.{HoldsRecords, DeclaresRecords, IsDeclaredOtherwise, LacksRecords, KeepsOthers, record_rows, records_in, GoesOn, KeepsContent, KeepsCrash}
+use Rattle.cs_store_sql.specs.declared.records.Place.{Place}
+use Rattle.cs_store_sql.specs.Records.{HoldsRecords, IsPlaced, DeclaresRecords, IsDeclaredOtherwise, LacksRecords, KeepsOthers, record_rows, records_in, GoesOn, KeepsContent, KeepsCrash}
 use Rattle.cs_store_encoding.specs.Stored.{Stores, StoresInSome, state_of}
 use Rattle.cs_rows.specs.Rows.{IsRowIn}
 
@@ -58,27 +59,22 @@ pub record IsStore (s : State) : Type 0 where
 abbrev pub IsSound : State → Type 0
 IsSound s = HasCleanDisk s → IsStore s
 
--- what is known of a table: its name, its schema, and a key that no row of it has
+-- what is known of a table: its name, its schema, and a key with the place of its row
 abbrev pub KnownData : Type 0
-KnownData = List ℕ × tables.SchemaData × Option (List ℕ)
+KnownData = List ℕ × tables.SchemaData × Option (List ℕ × Place)
 
--- in this state the table has that schema, and no row under the key, where there is one
-pub record IsKnown (held : tables.State) (known : KnownData) : Type 0 where
-  pub schema : tables.schema_at held known.0 ≡ Some known.1
-  pub free : IfSome known.2 (λ key. tables.row_at held known.0 key ≡ None)
+-- in this database the table has that schema, and the row of the key, where there is one, is at that place
+pub record IsKnown (db : Database) (known : KnownData) : Type 0 where
+  pub schema : tables.schema_at (tables_in db) known.0 ≡ Some known.1
+  pub placed : IfSome known.2 (λ sought. IsPlaced db known.0 sought.0 sought.1)
 
--- what is known is so of the tables that are shown, if the disk has returned what was written
+-- what is known is so of the database that is shown, if the disk has returned what was written
 abbrev pub Knows : State → Option KnownData → Type 0
-Knows s known = HasCleanDisk s → IfSome known (IsKnown (tables_in s.now))
+Knows s known = HasCleanDisk s → IfSome known (IsKnown s.now)
 
--- the table that is known has this name, and this key is known as one that no row of it has
-abbrev pub IsFreeKey : Option KnownData → List ℕ → List ℕ → Type 0
-IsFreeKey None name key = ⊥
-IsFreeKey (Some known) name key = (known.0 ≡ name) × (known.2 ≡ Some key)
-
--- what is known, but no key that no row has
-abbrev pub without_free_key : Option KnownData → Option KnownData
-without_free_key known = option_map (λ t. (t.0, t.1, None)) known
+-- what is known, but of no key
+abbrev pub without_key : Option KnownData → Option KnownData
+without_key known = option_map (λ t. (t.0, t.1, None)) known
 
 -- what a call that commits nothing keeps: what a crash leaves, what was committed last, and that this is a store;
 -- outside a transaction, where what is shown was committed, all that is shown; it begins no transaction, and keeps the

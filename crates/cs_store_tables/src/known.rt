@@ -1,6 +1,6 @@
 //! What is read and written through a store. The table that was looked up last is known: inside a transaction, where
-//! nobody else writes, its schema is not read again. So is the key that was looked up last, where no row has it: a row
-//! that is put there is new, and none is looked for to be replaced.
+//! nobody else writes, its schema is not read again. So is the key that was looked up last, and where its row is: a row
+//! that is put or removed there is not looked for again.
 ghost use Rattle.std.specs.Prelude.{◌≡◌, ◌⊎◌, ◌<◌, ◌^◌, true, IsTrue, IfOk, IfErr, OnOk, IfSome, None, Some, length, option_map};
 ghost use Rattle.std.specs.FinMap as map;
 ghost use Rattle.cs_value.specs.Table.{IsName};
@@ -10,14 +10,16 @@ ghost use Rattle.cs_rows.specs.Faults.{IsCaused, IsResource, IsReadRefusal, is_a
 ghost use Rattle.cs_rows.specs.Rows.{Adds, IsDeclared, Fits, puts_row, removes_row};
 ghost use Rattle.cs_store_tables.specs.Failing.{BatchFails, IsDeclarationOf, LeadsOn, PutFails, ReadFails, RemoveFails, Writes};
 ghost use Rattle.cs_store_tables.specs.Pages.{page_in};
-ghost use Rattle.cs_store_tables.specs.Store.{AddsTable, IsFreeKey, IsSound, KeepsStore, Knows, RefusesShut};
-ghost use Rattle.cs_store_tables.specs.Store.{tables_in, without_free_key};
+ghost use Rattle.cs_store_tables.specs.Store.{AddsTable, IsKnown, IsSound, KeepsStore, Knows, RefusesShut};
+ghost use Rattle.cs_store_tables.specs.Store.{tables_in, without_key};
 ghost use Rattle.sqlite.specs.State.{HasCleanDisk, IsUnchanged};
-ghost use Rattle.cs_store_sql.specs.Records.{Rests};
+ghost use Rattle.sqlite.specs.Effect.{Database};
+ghost use Rattle.cs_store_sql.specs.Records.{IsPlaced, Rests};
 ghost use Rattle.sqlite.specs.Held.{state};
 
 use crate::tables;
 use cs_rows::{Cause, Schema, StoreError};
+use cs_store_sql::Place;
 use cs_value::{Key, Row};
 use sqlite::{Alter, Connection};
 use std::alloc::Global;
@@ -28,8 +30,24 @@ use std::marker::Model;
 pub struct KnownTable {
     name: String,
     schema: Schema,
-    // A key that no row of the table has.
-    free: Option<Key>,
+    // The key that was looked up last.
+    sought: Option<Sought>,
+}
+
+/// A key of a table, and where its row is.
+#[derive(Drop)]
+struct Sought {
+    key: Key,
+    place: Place,
+}
+
+impl Model for Sought {
+    ghost use Rattle.std.specs.Prelude.{List, ℕ};
+    ghost use Rattle.cs_store_sql.specs.declared.records.Place.{Place as PlaceOf};
+
+    ghost Value = { List ℕ × PlaceOf };
+
+    ghost view = { λ s. (s.key, s.place) };
 }
 
 impl Model for KnownTable {
@@ -38,7 +56,7 @@ impl Model for KnownTable {
 
     ghost Value = { KnownData };
 
-    ghost view = { λ t. (string_bytes t.name, t.schema, t.free) };
+    ghost view = { λ t. (string_bytes t.name, t.schema, t.sought) };
 }
 
 /// The schema of a table, and none where no table has the name.
@@ -110,11 +128,13 @@ pub fn find_row<S: Alter>(
     look_up(conn, known, alloc, name)?;
     match known {
         Some(table) => match tables::find_row(conn, alloc, name, &table.schema, key) {
-            Ok(None) if !conn.is_autocommit() => {
-                table.free = Some(key.copy(alloc)?);
-                Ok(None)
+            Ok((row, place)) => {
+                if !conn.is_autocommit() {
+                    let key = key.copy(alloc)?;
+                    table.sought = Some(Sought { key, place });
+                }
+                Ok(row)
             }
-            Ok(found) => Ok(found),
             Err(error) => {
                 *known = None;
                 Err(error)
@@ -322,8 +342,8 @@ pub fn put_row<S: Alter>(
     if conn.is_autocommit() {
         return Err(StoreError::StoreFault(Cause::Other));
     }
-    let is_new = is_free(known, name, key);
-    match tables::put_row(conn, alloc, name, key, row, is_new) {
+    let place = place_in(known, name, key);
+    match tables::put_row(conn, alloc, name, key, row, place) {
         Ok(()) => {
             forget_key(known);
             Ok(())
@@ -360,7 +380,8 @@ pub fn remove_row<S: Alter>(
     if conn.is_autocommit() {
         return Err(StoreError::StoreFault(Cause::Other));
     }
-    match tables::remove_row(conn, name, key) {
+    let place = place_in(known, name, key);
+    match tables::remove_row(conn, name, key, place) {
         Ok(()) => {
             forget_key(known);
             Ok(())
@@ -474,7 +495,7 @@ fn look_up<S: Alter>(
         *known = Some(KnownTable {
             name,
             schema,
-            free: None,
+            sought: None,
         });
     }
     Ok(())
@@ -490,31 +511,31 @@ fn has_name(known: &Option<KnownTable>, name: &str) -> bool
     }
 }
 
-/// Whether it is known that no row of this table has this key.
-fn is_free(known: &Option<KnownTable>, name: &str, key: &Key) -> bool
-    ensures { IsTrue result → IsFreeKey known.now name.now key.now }
+/// Where the row is that has this key in the table of this name, as far as is known.
+fn place_in(known: &Option<KnownTable>, name: &str, key: &Key) -> Place
+    ensures { (db : Database) → IfSome known.now (IsKnown db) → IsPlaced db name.now key.now result }
 {
     match known {
-        Some(table) if has_name(known, name) => has_free(table, key),
-        _ => false,
+        Some(table) if has_name(known, name) => place_of(table, key),
+        _ => Place::Unknown,
     }
 }
 
-/// Whether this is the key that no row of a table has.
-fn has_free(table: &KnownTable, key: &Key) -> bool
-    ensures { IsTrue result → table.now.2 ≡ Some key.now }
+/// Where the row is that has this key in a table, as far as is known.
+fn place_of(table: &KnownTable, key: &Key) -> Place
+    ensures { (db : Database) → IsKnown db table.now → IsPlaced db table.now.0 key.now result }
 {
-    match &table.free {
-        Some(free) => free.bytes() == key.bytes(),
-        None => false,
+    match &table.sought {
+        Some(sought) if sought.key.bytes() == key.bytes() => sought.place,
+        _ => Place::Unknown,
     }
 }
 
-/// Forgets which key no row has.
+/// Forgets the key that was looked up last.
 fn forget_key(known: &mut Option<KnownTable>)
-    ensures { known.new ≡ without_free_key known.old }
+    ensures { known.new ≡ without_key known.old }
 {
     if let Some(table) = known {
-        table.free = None;
+        table.sought = None;
     }
 }

@@ -11,21 +11,25 @@ ghost use Rattle.cs_value.specs.State.{SchemaData, IsSchema, schema_at, row_at, 
 ghost use Rattle.cs_value.specs.State.{with_row, without_row};
 ghost use Rattle.cs_store_encoding.specs.Declaration.{declaration_bytes};
 ghost use Rattle.sqlite.specs.State.{HasCleanDisk, IsUnchanged};
-ghost use Rattle.cs_store_sql.specs.Records.{KeepsCrash, Rests};
+ghost use Rattle.sqlite.specs.Effect.{Database};
+ghost use Rattle.cs_store_sql.specs.Records.{IsAt, IsPlaced, KeepsCrash, Rests};
 ghost use Rattle.sqlite.specs.Held.{state};
 ghost use Rattle.cs_rows.specs.Faults.{IsCaused, IsResource, IsReadRefusal};
-ghost use Rattle.cs_store_sql.specs.Failing.{puts, removes};
+ghost use Rattle.cs_store_sql.specs.Failing.{puts, put_at, remove_at};
 ghost use Rattle.cs_store_tables.specs.Failing.{BatchFails, IsDeclarationOf, LeadsOn, ReadFails, WriteFails, Writes};
 ghost use Rattle.cs_store_tables.specs.Refusals.{refusal_of};
 ghost use Rattle.cs_rows.specs.Rows.{Adds, IsDeclared, Fits, IsRowIn, puts_row};
 ghost use Rattle.cs_store_tables.specs.Pages.{page_in};
 ghost use Rattle.cs_store_tables.specs.Store.{IsSound, KeepsStore, Recovers, RecoversList, RefusesShut};
-ghost use Rattle.cs_store_tables.specs.Store.{AddsTable, AreNamed, AreStored, HoldsState, tables_in};
+ghost use Rattle.cs_store_tables.specs.Store.{AddsTable, AreNamed, AreStored, tables_in};
 
 use crate::refusal::refused;
 use cs_rows::{Schema, StoreError};
 use cs_store_encoding::{read_declaration, read_name, read_row, write_declaration};
-use cs_store_sql::{Keyed, RecordsError, count_records, find_record, list_records, put_record, remove_record};
+use cs_store_sql::{
+    Found, Keyed, Place, RecordsError, add_record, count_records, find_record, list_records,
+    put_record, remove_record,
+};
 use cs_value::{Key, Row, row_write};
 use sqlite::{Alter, Connection};
 use std::alloc::Global;
@@ -67,35 +71,39 @@ pub fn find_schema<S: Alter>(
 }
 
 /// The schema whose declaration is stored, if one is.
-fn schema_in(alloc: Global, stored: Option<Vec<u8>>) -> Result<Option<Schema>, StoreError>
+fn schema_in(alloc: Global, stored: Option<Found>) -> Result<Option<Schema>, StoreError>
     ensures found { (o : Option SchemaData) → IfSome o IsSchema
-        → option_map (λ v. v.items) stored ≡ option_map declaration_bytes o
+        → option_map (λ f. f.1) stored ≡ option_map declaration_bytes o
         → Recovers result o }
     ensures caused { IfErr result (IsCaused (λ _. ⊥)) }
     ensures named { IfErr result IsReadRefusal }
 {
     match stored {
-        Some(bytes) => Ok(Some(read_declaration(alloc, &bytes)?)),
+        Some(found) => Ok(Some(read_declaration(alloc, &found.value)?)),
         None => Ok(None),
     }
 }
 
-/// The row under a key of the table of this name, which has this schema.
+/// The row under a key of the table of this name, which has this schema, and where it is.
 pub fn find_row<S: Alter>(
     conn: &mut Connection<S>,
     alloc: Global,
     name: &str,
     schema: &Schema,
     key: &Key,
-) -> Result<Option<Row>, StoreError>
+) -> Result<(Option<Row>, Place), StoreError>
     ensures found { IsSound (state S.Store conn.old) → HasCleanDisk (state S.Store conn.new)
         → schema_at (tables_in (state S.Store conn.old).now) name.now ≡ Some schema.now
-        → Recovers result (row_at (tables_in (state S.Store conn.old).now) name.now key.now) }
+        → IfOk result (λ p. p.0 ≡ row_at (tables_in (state S.Store conn.old).now) name.now key.now) }
+    ensures placed { IsSound (state S.Store conn.old) → HasCleanDisk (state S.Store conn.new)
+        → IfOk result (λ p. IsPlaced (state S.Store conn.old).now name.now key.now p.1) }
+    ensures refused { IsSound (state S.Store conn.old) → HasCleanDisk (state S.Store conn.new)
+        → schema_at (tables_in (state S.Store conn.old).now) name.now ≡ Some schema.now → IfErr result IsResource }
     ensures same { HasCleanDisk (state S.Store conn.new) → OnOk result ((state S.Store conn.new).now
         ≡ (state S.Store conn.old).now) }
     ensures fits { IsSound (state S.Store conn.old) → HasCleanDisk (state S.Store conn.new)
         → schema_at (tables_in (state S.Store conn.old).now) name.now ≡ Some schema.now
-        → IfOk result (λ o. IfSome o (Fits (tables_in (state S.Store conn.old).now) name.now key.now)) }
+        → IfOk result (λ p. IfSome p.0 (Fits (tables_in (state S.Store conn.old).now) name.now key.now)) }
     ensures caused { IsSound (state S.Store conn.old) → HasCleanDisk (state S.Store conn.new)
         → IfErr result (IsCaused (ReadFails (state S.Store conn.old) (state S.Store conn.new))) }
     ensures named { IfErr result IsReadRefusal }
@@ -107,24 +115,34 @@ pub fn find_row<S: Alter>(
     ensures kept { KeepsStore (state S.Store conn.old) (state S.Store conn.new) }
 {
     match find_record(conn, name, key.bytes()) {
-        Ok(found) => row_in(alloc, schema, found),
+        Ok(found) => {
+            let place = place_of(&found);
+            Ok((row_in(alloc, schema, found)?, place))
+        }
         Err(error) => Err(refused(error)),
     }
 }
 
+/// Where the record is that was looked for.
+fn place_of(found: &Option<Found>) -> Place
+    ensures { (db : Database) (tab key : List ℕ) → IfSome found.now (λ f. IsAt db tab key f.0)
+        → IsPlaced db tab key result }
+{
+    match found {
+        Some(found) => Place::At(found.rowid),
+        None => Place::Unknown,
+    }
+}
+
 /// The row that is stored, if one is.
-fn row_in(
-    alloc: Global,
-    schema: &Schema,
-    stored: Option<Vec<u8>>,
-) -> Result<Option<Row>, StoreError>
+fn row_in(alloc: Global, schema: &Schema, stored: Option<Found>) -> Result<Option<Row>, StoreError>
     ensures found { (o : Option (List OwnedValue)) → IfSome o (IsRowIn schema.now)
-        → option_map (λ v. v.items) stored ≡ option_map row_bytes o → Recovers result o }
+        → option_map (λ f. f.1) stored ≡ option_map row_bytes o → Recovers result o }
     ensures caused { IfErr result (IsCaused (λ _. ⊥)) }
     ensures named { IfErr result IsReadRefusal }
 {
     match stored {
-        Some(bytes) => Ok(Some(read_row(alloc, schema, &bytes)?)),
+        Some(found) => Ok(Some(read_row(alloc, schema, &found.value)?)),
         None => Ok(None),
     }
 }
@@ -319,27 +337,27 @@ pub fn add_row<S: Alter>(
 {
     let mut bytes = Vec::new(alloc);
     row_write(&mut bytes, row)?;
-    match put_record(conn, name, key.bytes(), &bytes, true) {
+    match add_record(conn, name, key.bytes(), &bytes) {
         Ok(()) => Ok(true),
         Err(error) if error.is_not_unique() => expect_row(conn, name, key, error),
         Err(error) => Err(refused(error)),
     }
 }
 
-/// Puts a row under its key in a table that it fits, inside a transaction: a new row, where it is known that none has
-/// the key.
+/// Puts a row under its key in a table that it fits, inside a transaction. If it is known where the row of the key is, none
+/// is looked for.
 pub fn put_row<S: Alter>(
     conn: &mut Connection<S>,
     alloc: Global,
     name: &str,
     key: &Key,
     row: &Row,
-    is_new: bool,
+    place: Place,
 ) -> Result<(), StoreError>
     requires fits { HasCleanDisk (state S.Store conn.old)
         → Fits (tables_in (state S.Store conn.old).now) name.now key.now row.now }
-    requires new { IsTrue is_new → HasCleanDisk (state S.Store conn.old) → HoldsState (state S.Store conn.old).now
-        × (row_at (tables_in (state S.Store conn.old).now) name.now key.now ≡ None) }
+    requires placed { HasCleanDisk (state S.Store conn.old)
+        → IsPlaced (state S.Store conn.old).now name.now key.now place }
     ensures put { IsSound (state S.Store conn.old) → IsTrue (state S.Store conn.old).in_transaction
         → HasCleanDisk (state S.Store conn.new)
         → OnOk result (tables_in (state S.Store conn.new).now
@@ -347,26 +365,31 @@ pub fn put_row<S: Alter>(
     ensures refused { IfErr result IsResource }
     ensures caused { IsSound (state S.Store conn.old) → IsTrue (state S.Store conn.old).in_transaction
         → HasCleanDisk (state S.Store conn.new) → IfErr result
-        (IsCaused (WriteFails (state S.Store conn.old) (state S.Store conn.new) (puts is_new name.now key.now (row_bytes row.now)))) }
+        (IsCaused (WriteFails (state S.Store conn.old) (state S.Store conn.new) (put_at place name.now key.now (row_bytes row.now)))) }
     ensures leads { IsSound (state S.Store conn.old) → IsTrue (state S.Store conn.old).in_transaction
         → HasCleanDisk (state S.Store conn.new)
         → OnOk result (LeadsOn (λ held statement. (held ≡ tables_in (state S.Store conn.old).now)
-        × (statement ≡ puts is_new name.now key.now (row_bytes row.now))) (state S.Store conn.old) (state S.Store conn.new)) }
+        × (statement ≡ put_at place name.now key.now (row_bytes row.now))) (state S.Store conn.old) (state S.Store conn.new)) }
     ensures kept { IsSound (state S.Store conn.old) → IsTrue (state S.Store conn.old).in_transaction
         → KeepsStore (state S.Store conn.old) (state S.Store conn.new) }
 {
     let mut bytes = Vec::new(alloc);
     row_write(&mut bytes, row)?;
-    put_record(conn, name, key.bytes(), &bytes, is_new).map_err(refused)
+    put_record(conn, name, key.bytes(), &bytes, place).map_err(refused)
 }
 
-/// Removes the row under a key of a declared table, if there is one, inside a transaction.
+/// Removes the row under a key of a declared table, if there is one, inside a transaction. If it is known where the row
+/// is, none is looked for.
 pub fn remove_row<S: Alter>(
     conn: &mut Connection<S>,
     name: &str,
     key: &Key,
+    place: Place,
 ) -> Result<(), StoreError>
-    requires { HasCleanDisk (state S.Store conn.old) → IsDeclared (tables_in (state S.Store conn.old).now) name.now }
+    requires declared { HasCleanDisk (state S.Store conn.old)
+        → IsDeclared (tables_in (state S.Store conn.old).now) name.now }
+    requires placed { HasCleanDisk (state S.Store conn.old)
+        → IsPlaced (state S.Store conn.old).now name.now key.now place }
     ensures removed { IsSound (state S.Store conn.old) → IsTrue (state S.Store conn.old).in_transaction
         → HasCleanDisk (state S.Store conn.new)
         → OnOk result (tables_in (state S.Store conn.new).now
@@ -374,15 +397,15 @@ pub fn remove_row<S: Alter>(
     ensures refused { IfErr result IsResource }
     ensures caused { IsSound (state S.Store conn.old) → IsTrue (state S.Store conn.old).in_transaction
         → HasCleanDisk (state S.Store conn.new) → IfErr result
-        (IsCaused (WriteFails (state S.Store conn.old) (state S.Store conn.new) (removes name.now key.now))) }
+        (IsCaused (WriteFails (state S.Store conn.old) (state S.Store conn.new) (remove_at place name.now key.now))) }
     ensures leads { IsSound (state S.Store conn.old) → IsTrue (state S.Store conn.old).in_transaction
         → HasCleanDisk (state S.Store conn.new)
         → OnOk result (LeadsOn (λ held statement. (held ≡ tables_in (state S.Store conn.old).now)
-        × (statement ≡ removes name.now key.now)) (state S.Store conn.old) (state S.Store conn.new)) }
+        × (statement ≡ remove_at place name.now key.now)) (state S.Store conn.old) (state S.Store conn.new)) }
     ensures kept { IsSound (state S.Store conn.old) → IsTrue (state S.Store conn.old).in_transaction
         → KeepsStore (state S.Store conn.old) (state S.Store conn.new) }
 {
-    remove_record(conn, name, key.bytes()).map_err(refused)
+    remove_record(conn, name, key.bytes(), place).map_err(refused)
 }
 
 /// The names of the tables, by their bytes.
@@ -466,5 +489,5 @@ pub fn put_table<S: Alter>(
         → KeepsStore (state S.Store conn.old) (state S.Store conn.new) }
 {
     let bytes = write_declaration(alloc, schema)?;
-    put_record(conn, "", name.as_bytes(), &bytes, false).map_err(refused)
+    put_record(conn, "", name.as_bytes(), &bytes, Place::Unknown).map_err(refused)
 }

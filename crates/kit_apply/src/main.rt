@@ -6,7 +6,7 @@ mod entry;
 mod texts;
 
 use crate::entry::{Change, KEY_LEN, Shape, blob_row};
-use anyhow::{Result, bail, ensure};
+use anyhow::{Result, bail};
 use sqlite::{Alter, Connection, Error, params};
 use std::alloc::Global;
 use std::env;
@@ -34,10 +34,13 @@ fn adopt<S: Alter>(conn: &mut Connection<S>) -> Result<(), Error> {
     Ok(())
 }
 
-/// Returns whether there is a record with this key.
-fn has_record<S: Alter>(conn: &mut Connection<S>, table: &str, key: &[u8]) -> Result<bool, Error> {
+/// Returns the number of the row of the record with this key. It fails if there is none.
+fn find_record<S: Alter>(conn: &mut Connection<S>, table: &str, key: &[u8]) -> Result<i64> {
     let found = conn.query_all(texts::FIND, params![table, key])?;
-    Ok(!found.is_empty())
+    match found.first() {
+        Some(row) => Ok(row.get(0)?),
+        None => bail!("a record is missing"),
+    }
 }
 
 /// Carries out the entry with this key. It fails if the entry has a conflict.
@@ -59,15 +62,16 @@ fn apply_row<S: Alter>(conn: &mut Connection<S>, change: Change, row: &[u8]) -> 
     let Some(key) = row.get(..KEY_LEN) else {
         bail!("the row has no key");
     };
-    let is_new = !has_record(conn, TABLE, key)?;
-    ensure!(
-        is_new == matches!(change, Change::Insert),
-        "the entry has a conflict"
-    );
     match change {
         Change::Insert => conn.execute(texts::INSERT, params![TABLE, key, row])?,
-        Change::Delete => conn.execute(texts::REMOVE, params![TABLE, key])?,
-        Change::Update => conn.execute(texts::PUT, params![TABLE, key, row])?,
+        Change::Delete => {
+            let rowid = find_record(conn, TABLE, key)?;
+            conn.execute(texts::TAKE, params![rowid])?
+        }
+        Change::Update => {
+            let rowid = find_record(conn, TABLE, key)?;
+            conn.execute(texts::REPLACE, params![row, rowid])?
+        }
     };
     Ok(())
 }
@@ -81,10 +85,7 @@ fn apply<S: Alter>(
 ) -> Result<()> {
     adopt(conn)?;
     conn.execute("BEGIN", &[])?;
-    ensure!(
-        has_record(conn, "", TABLE.as_bytes())?,
-        "the store has no table t"
-    );
+    let _declared = find_record(conn, "", TABLE.as_bytes())?;
     for key in 0..count {
         apply_entry(alloc, conn, shape, key)?;
     }

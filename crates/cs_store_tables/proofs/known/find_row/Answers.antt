@@ -1,21 +1,14 @@
--- `known::find_row`: what it ensures.
+-- `known::find_row`: the clauses `kept`, `caused` and `found`.
 use Rattle.std.proofs.Common.{ap, sym, ◌∙◌}
 use Rattle.std.specs.Option.{option_map}
-use Rattle.std.proofs.lemmas.Result.{err_from_is_err_and}
-use Rattle.cs_store_tables.proofs.ReadLemmas.{no_row}
 use Rattle.sqlite.specs.Held.{state}
-use Rattle.cs_store_tables.specs.Laws.{keeps_then, leads_on_then, read_then, was_clean}
+use Rattle.cs_store_tables.specs.Laws.{keeps_then, read_then, was_clean}
+use Rattle.cs_store_tables.proofs.ReadLemmas.{no_row}
 use Rattle.cs_store_tables.proofs.FailureLemmas.{so_caused}
 use Rattle.cs_store_tables.proofs.known.find_row.Goals as goal
 
-pub returns-in_ok-copy-in-Ok-None-clause-kept : goal.returns-in_ok-copy-in-Ok-None-clause-kept
-returns-in_ok-copy-in-Ok-None-clause-kept g c = keeps_then c.look_up.ensures.kept c.find_row.ensures.kept
-
-pub returns-in_err-copy-in-Ok-None-clause-kept : goal.returns-in_err-copy-in-Ok-None-clause-kept
-returns-in_err-copy-in-Ok-None-clause-kept g c = keeps_then c.look_up.ensures.kept c.find_row.ensures.kept
-
-pub returns-in-Ok-clause-kept : goal.returns-in-Ok-clause-kept
-returns-in-Ok-clause-kept g c = keeps_then c.look_up.ensures.kept c.find_row.ensures.kept
+pub returns-in_err-key-in-Ok-clause-kept : goal.returns-in_err-key-in-Ok-clause-kept
+returns-in_err-key-in-Ok-clause-kept g c = keeps_then c.look_up.ensures.kept c.find_row.ensures.kept
 
 pub returns-in-Err-clause-caused : goal.returns-in-Err-clause-caused
 returns-in-Err-clause-caused g c clean =
@@ -24,90 +17,5 @@ returns-in-Err-clause-caused g c clean =
     so_caused _ _ c.in-Err.error (λ why fails. read_then (state g.S.Store c.args.conn.now) (state g.S.Store c.look_up.new.conn) (state g.S.Store c.find_row.new.conn) why kept.crash
     (was_clean (state g.S.Store c.look_up.new.conn) (state g.S.Store c.find_row.new.conn) then.crash clean) then.crash fails) (c.in-Err.ensures.caused (kept.sound c.requires.sound) clean)
 
-pub returns-in-Ok-clause-leads : goal.returns-in-Ok-clause-leads
-returns-in-Ok-clause-leads g c clean =
-    let was = was_clean (state g.S.Store c.look_up.new.conn) (state g.S.Store c.find_row.new.conn) c.find_row.ensures.kept.crash clean in
-    leads_on_then c.look_up.ensures.kept.crash (c.in_ok-look_up.ensures.leads was) (c.in-Ok.ensures.leads clean)
-
-pub returns-in_ok-copy-in-Ok-None-clause-leads : goal.returns-in_ok-copy-in-Ok-None-clause-leads
-returns-in_ok-copy-in-Ok-None-clause-leads g c clean =
-    let was = was_clean (state g.S.Store c.look_up.new.conn) (state g.S.Store c.find_row.new.conn) c.find_row.ensures.kept.crash clean in
-    leads_on_then c.look_up.ensures.kept.crash (c.in_ok-look_up.ensures.leads was) (c.in-Ok-None.ensures.leads clean)
-
-pub returns-in_err-look_up : goal.returns-in_err-look_up
-returns-in_err-look_up g c =
-    let p = err_from_is_err_and c.from_residual.result c.from_residual.ensures.1 in
-    let e = c.in_err-look_up.ensures in
-    rw (p.1, p.2) (record {
-      found = λ clean. tt;
-      fits = λ clean. tt;
-      tells = λ clean. tt;
-      same = λ clean. tt;
-      refused = e.refused;
-      shut = e.shut;
-      caused = e.caused;
-      named = e.named;
-      knows = e.knows;
-      leads = λ clean. tt;
-      reads = λ clean. tt;
-      rests = e.rests;
-      kept = e.kept;
-    })
-
-pub returns-in-None : goal.returns-in-None
-returns-in-None g c =
-    let e = c.in_ok-look_up.ensures in
-    record {
-      found = λ clean. sym (no_row _ c.args.name.now c.args.key.now (sym (e.found clean) ∙ ap (option_map (λ t. t.1)) c.in-None.is));
-      fits = λ clean. tt;
-      tells = e.found;
-      same = e.same;
-      refused = λ clean. tt;
-      shut = e.shut;
-      caused = λ clean. tt;
-      named = tt;
-      knows = e.knows;
-      leads = e.leads;
-      reads = e.reads;
-      rests = e.rests;
-      kept = e.kept;
-    }
-
-pub returns-in-Ok-clause-refused : goal.returns-in-Ok-clause-refused
-returns-in-Ok-clause-refused g c clean = tt
-
-pub returns-in_ok-copy-in-Ok-None-clause-refused : goal.returns-in_ok-copy-in-Ok-None-clause-refused
-returns-in_ok-copy-in-Ok-None-clause-refused g c clean = tt
-
-pub returns-in-Ok-clause-caused : goal.returns-in-Ok-clause-caused
-returns-in-Ok-clause-caused g c clean = tt
-
-pub returns-in_ok-copy-in-Ok-None-clause-caused : goal.returns-in_ok-copy-in-Ok-None-clause-caused
-returns-in_ok-copy-in-Ok-None-clause-caused g c clean = tt
-
-pub returns-in-Ok-clause-named : goal.returns-in-Ok-clause-named
-returns-in-Ok-clause-named g c = tt
-
-pub returns-in_ok-copy-in-Ok-None-clause-named : goal.returns-in_ok-copy-in-Ok-None-clause-named
-returns-in_ok-copy-in-Ok-None-clause-named g c = tt
-
-pub returns-in-Err-clause-found : goal.returns-in-Err-clause-found
-returns-in-Err-clause-found g c clean = tt
-
-pub returns-in-Err-clause-fits : goal.returns-in-Err-clause-fits
-returns-in-Err-clause-fits g c clean = tt
-
-pub returns-in-Err-clause-tells : goal.returns-in-Err-clause-tells
-returns-in-Err-clause-tells g c clean = tt
-
-pub returns-in-Err-clause-same : goal.returns-in-Err-clause-same
-returns-in-Err-clause-same g c clean = tt
-
-pub returns-in-Err-clause-leads : goal.returns-in-Err-clause-leads
-returns-in-Err-clause-leads g c clean = tt
-
-pub returns-in-Err-clause-reads : goal.returns-in-Err-clause-reads
-returns-in-Err-clause-reads g c clean = tt
-
-pub returns-in-Err-clause-knows : goal.returns-in-Err-clause-knows
-returns-in-Err-clause-knows g c clean = tt
+pub returns-in-None-clause-found : goal.returns-in-None-clause-found
+returns-in-None-clause-found g c clean = sym (no_row _ c.args.name.now c.args.key.now (sym (c.in_ok-look_up.ensures.found clean) ∙ ap (option_map (λ t. t.1)) c.in-None.is))

@@ -9,8 +9,7 @@ use Rattle.cs_value.specs.State.{TableData, rows_at}
 use Rattle.cs_store_tables.specs.Store.{tables_in}
 use Rattle.cs_store_tables.specs.Laws.{was_clean}
 use Rattle.cs_store_sql.proofs.ContentLemmas.{in_transaction}
-use Rattle.cs_store_tables.proofs.WriteLemmas.{shows_state}
-use Rattle.cs_store_tables.proofs.KnownLemmas.{known_free, knows_written}
+use Rattle.cs_store_tables.proofs.KnownLemmas.{knows_written}
 use Rattle.cs_store_tables.proofs.FailureLemmas.{put_leads, so_caused}
 use Rattle.cs_store_tables.proofs.known.put_row.Goals as goal
 
@@ -29,20 +28,17 @@ returns-in-Ok-clause-kept g c = c.put_row.ensures.kept c.requires.sound (in_tran
 pub returns-in-Err-clause-kept : goal.returns-in-Err-clause-kept
 returns-in-Err-clause-kept g c = c.put_row.ensures.kept c.requires.sound (in_transaction _ c.if-is_autocommit.ensures.value)
 
-pub put_row-requires-clause-new : goal.put_row-requires-clause-new
-put_row-requires-clause-new g c = λ new clean.
-    let old = state g.S.Store c.args.conn.now in
-    let inside = in_transaction _ c.if-is_autocommit.ensures.value in
-    (shows_state old c.requires.sound inside clean, known_free old c.args.known.now c.args.name.now c.args.key.now (c.is_free-is_new.ensures new) c.requires.knows clean)
+pub put_row-requires-clause-placed : goal.put_row-requires-clause-placed
+put_row-requires-clause-placed g c = λ clean. c.place_in-place.ensures (state g.S.Store c.args.conn.now).now (c.requires.knows clean)
 
 pub returns-then-is_autocommit-clause-refused : goal.returns-then-is_autocommit-clause-refused
 returns-then-is_autocommit-clause-refused g c = inr (refused_for cause.Other)
 
 pub returns-in-Err-clause-caused : goal.returns-in-Err-clause-caused
 returns-in-Err-clause-caused g c clean =
-    so_caused _ _ c.in-Err.error (λ why fails. inr (c.is_free-is_new.result, fails)) (c.in-Err.ensures.caused c.requires.sound (in_transaction _ c.if-is_autocommit.ensures.value) clean)
+    so_caused _ _ c.in-Err.error (λ why fails. inr (c.place_in-place.result, fails)) (c.in-Err.ensures.caused c.requires.sound (in_transaction _ c.if-is_autocommit.ensures.value) clean)
 
 pub returns-in-Ok-clause-leads : goal.returns-in-Ok-clause-leads
 returns-in-Ok-clause-leads g c clean =
-    put_leads (state g.S.Store c.args.conn.now) (state g.S.Store c.put_row.new.conn) c.is_free-is_new.result c.args.name.now c.args.key.now c.args.row.now
+    put_leads (state g.S.Store c.args.conn.now) (state g.S.Store c.put_row.new.conn) c.place_in-place.result c.args.name.now c.args.key.now c.args.row.now
     (c.in-Ok.ensures.leads c.requires.sound (in_transaction _ c.if-is_autocommit.ensures.value) clean)

@@ -32,9 +32,12 @@ returns-then-is_autocommit-clause-refused g c = inr (refused_for cause.Other)
 
 pub returns-in-Err-clause-caused : goal.returns-in-Err-clause-caused
 returns-in-Err-clause-caused g c clean =
-    so_caused _ _ c.in-Err.error (λ why fails. inr fails) (c.in-Err.ensures.caused c.requires.sound (in_transaction _ c.if-is_autocommit.ensures.value) clean)
+    so_caused _ _ c.in-Err.error (λ why fails. inr (c.place_in-place.result, fails)) (c.in-Err.ensures.caused c.requires.sound (in_transaction _ c.if-is_autocommit.ensures.value) clean)
 
 pub returns-in-Ok-clause-leads : goal.returns-in-Ok-clause-leads
 returns-in-Ok-clause-leads g c clean =
-    remove_leads (state g.S.Store c.args.conn.now) (state g.S.Store c.remove_row.new.conn) c.args.name.now c.args.key.now
+    remove_leads (state g.S.Store c.args.conn.now) (state g.S.Store c.remove_row.new.conn) c.place_in-place.result c.args.name.now c.args.key.now
     (c.in-Ok.ensures.leads c.requires.sound (in_transaction _ c.if-is_autocommit.ensures.value) clean)
+
+pub remove_row-requires-clause-placed : goal.remove_row-requires-clause-placed
+remove_row-requires-clause-placed g c = λ clean. c.place_in-place.ensures (state g.S.Store c.args.conn.now).now (c.requires.knows clean)

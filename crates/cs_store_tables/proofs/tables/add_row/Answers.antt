@@ -18,74 +18,74 @@ use Rattle.cs_store_tables.specs.Laws.{keeps_then, leads_on_then, read_then, was
 use Rattle.cs_store_tables.proofs.StoreLemmas.{rests_keeps}
 use Rattle.cs_store_tables.proofs.ReadLemmas.{declared_by, free_row, no_record}
 use Rattle.cs_store_tables.proofs.WriteLemmas.{on_ok_then, put_keeps, row_put, shows_state, written_is}
-use Rattle.cs_store_tables.proofs.FailureLemmas.{cannot_write, declared, put_fails, read_fails, read_leads, refused_fails, so_caused, write_caused, write_leads}
+use Rattle.cs_store_tables.proofs.FailureLemmas.{add_fails, cannot_write, declared, read_fails, read_leads, refused_fails, so_caused, write_caused, write_leads}
 use Rattle.cs_store_tables.proofs.tables.add_row.Goals as goal
 
 pub returns-in-Ok-clause-kept : goal.returns-in-Ok-clause-kept
 returns-in-Ok-clause-kept g c sound inside =
     let old = state g.S.Store c.args.conn.now in
-    let mid = state g.S.Store c.put_record.new.conn in
+    let mid = state g.S.Store c.add_record.new.conn in
     let spelled : c.deref.result.now ≡ row_bytes c.args.row.now = search rules in
-    put_keeps old mid c.put_record.result c.args.name.now c.args.key.now c.args.row.now c.bytes.result.now c.deref.result.now sound inside c.requires c.bytes.ensures spelled c.put_record.ensures.survives c.put_record.ensures.set
-    c.put_record.ensures.goes_on c.put_record.ensures.marks c.put_record.ensures.rests
+    put_keeps old mid c.add_record.result c.args.name.now c.args.key.now c.args.row.now c.bytes.result.now c.deref.result.now sound inside c.requires c.bytes.ensures spelled c.add_record.ensures.survives c.add_record.ensures.set
+    c.add_record.ensures.goes_on c.add_record.ensures.marks c.add_record.ensures.rests
 
 pub returns-clause-kept : goal.returns-clause-kept
 returns-clause-kept g c sound inside =
     let old = state g.S.Store c.args.conn.now in
-    let mid = state g.S.Store c.put_record.new.conn in
+    let mid = state g.S.Store c.add_record.new.conn in
     let spelled : c.deref.result.now ≡ row_bytes c.args.row.now = search rules in
-    put_keeps old mid c.put_record.result c.args.name.now c.args.key.now c.args.row.now c.bytes.result.now c.deref.result.now sound inside c.requires c.bytes.ensures spelled c.put_record.ensures.survives c.put_record.ensures.set
-    c.put_record.ensures.goes_on c.put_record.ensures.marks c.put_record.ensures.rests
+    put_keeps old mid c.add_record.result c.args.name.now c.args.key.now c.args.row.now c.bytes.result.now c.deref.result.now sound inside c.requires c.bytes.ensures spelled c.add_record.ensures.survives c.add_record.ensures.set
+    c.add_record.ensures.goes_on c.add_record.ensures.marks c.add_record.ensures.rests
 
 pub returns-in-Err-clause-kept : goal.returns-in-Err-clause-kept
 returns-in-Err-clause-kept g c sound inside =
     let old = state g.S.Store c.args.conn.now in
-    let mid = state g.S.Store c.put_record.new.conn in
+    let mid = state g.S.Store c.add_record.new.conn in
     let spelled : c.deref.result.now ≡ row_bytes c.args.row.now = search rules in
-    keeps_then (put_keeps old mid c.put_record.result c.args.name.now c.args.key.now c.args.row.now c.bytes.result.now c.deref.result.now sound inside c.requires c.bytes.ensures spelled c.put_record.ensures.survives c.put_record.ensures.set
-    c.put_record.ensures.goes_on c.put_record.ensures.marks c.put_record.ensures.rests) (rests_keeps _ _ c.expect_row.ensures.keeps_crash (λ clean. c.expect_row.ensures.rests clean))
+    keeps_then (put_keeps old mid c.add_record.result c.args.name.now c.args.key.now c.args.row.now c.bytes.result.now c.deref.result.now sound inside c.requires c.bytes.ensures spelled c.add_record.ensures.survives c.add_record.ensures.set
+    c.add_record.ensures.goes_on c.add_record.ensures.marks c.add_record.ensures.rests) (rests_keeps _ _ c.expect_row.ensures.keeps_crash (λ clean. c.expect_row.ensures.rests clean))
 
 pub returns-in-Ok-clause-added : goal.returns-in-Ok-clause-added
 returns-in-Ok-clause-added g c sound inside clean =
     let old = state g.S.Store c.args.conn.now in
-    let mid = state g.S.Store c.put_record.new.conn in
-    let h = c.put_record.ensures in
+    let mid = state g.S.Store c.add_record.new.conn in
+    let h = c.add_record.ensures in
     let was = h.was_clean clean in
     let holds = shows_state old sound inside was in
     let fits = c.requires was in
     let spelled : c.deref.result.now ≡ row_bytes c.args.row.now = search rules in
-    let put = written_is old mid c.put_record.result c.args.name.now c.bytes.result.now (Some c.deref.result.now) _ sound inside
+    let put = written_is old mid c.add_record.result c.args.name.now c.bytes.result.now (Some c.deref.result.now) _ sound inside
     (λ clean holds set. row_put old.now mid.now c.args.name.now c.args.key.now c.args.row.now holds (c.requires clean) (rw (c.bytes.ensures, spelled) at set)) h.survives h.set clean in
-    (free_row old.now c.args.name.now c.args.key.now c.args.row.now holds fits (rw c.bytes.ensures at (c.in-Ok.ensures.new clean holds.records refl)), rw c.in-Ok.is at put)
+    (free_row old.now c.args.name.now c.args.key.now c.args.row.now holds fits (rw c.bytes.ensures at (c.in-Ok.ensures.free clean holds.records)), rw c.in-Ok.is at put)
 
 pub returns-in-Ok-clause-leads : goal.returns-in-Ok-clause-leads
 returns-in-Ok-clause-leads g c sound inside clean =
     let old = state g.S.Store c.args.conn.now in
-    let mid = state g.S.Store c.put_record.new.conn in
-    let holds = (shows_state old sound inside (c.put_record.ensures.was_clean clean)).records in
+    let mid = state g.S.Store c.add_record.new.conn in
+    let holds = (shows_state old sound inside (c.add_record.ensures.was_clean clean)).records in
     let spelled : c.deref.result.now ≡ row_bytes c.args.row.now = search rules in
     write_leads (Writes (λ held write. (held ≡ tables_in old.now) × (write ≡ puts_row c.args.name.now c.args.key.now c.args.row.now))) old mid (puts true c.args.name.now c.args.key.now (row_bytes c.args.row.now))
-    ((puts_row c.args.name.now c.args.key.now c.args.row.now, (refl, refl, refl), (refl, refl)), rw c.bytes.ensures at (c.in-Ok.ensures.new clean holds refl))
+    ((puts_row c.args.name.now c.args.key.now c.args.row.now, (refl, refl, refl), (refl, refl)), rw c.bytes.ensures at (c.in-Ok.ensures.free clean holds))
     (rw (c.bytes.ensures, spelled) at (c.in-Ok.ensures.ends clean holds)) (c.in-Ok.ensures.goes_on clean holds inside)
 
 pub returns-in-Err-clause-leads : goal.returns-in-Err-clause-leads
 returns-in-Err-clause-leads g c sound inside clean =
     let old = state g.S.Store c.args.conn.now in
-    let mid = state g.S.Store c.put_record.new.conn in
+    let mid = state g.S.Store c.add_record.new.conn in
     let new = state g.S.Store c.expect_row.new.conn in
     let now = was_clean mid new c.expect_row.ensures.keeps_crash clean in
     let same : IsUnchanged old mid = c.in-Err.ensures.refused now (c.is_not_unique.ensures.0 c.if-is_not_unique.true) in
-    let first = c.put_record.ensures.survives (λ was. (shows_state old sound inside was).records) (λ was. inside) in
+    let first = c.add_record.ensures.survives (λ was. (shows_state old sound inside was).records) (λ was. inside) in
     on_ok_then c.expect_row.result _ _ (λ read. leads_on_then first (read_leads old mid same) (read_leads mid new read)) (c.expect_row.ensures.reads clean)
 
 pub returns-clause-caused : goal.returns-clause-caused
 returns-clause-caused g c sound inside clean =
     let old = state g.S.Store c.args.conn.now in
-    let mid = state g.S.Store c.put_record.new.conn in
+    let mid = state g.S.Store c.add_record.new.conn in
     let spelled : c.deref.result.now ≡ row_bytes c.args.row.now = search rules in
-    let was = c.put_record.ensures.was_clean clean in
+    let was = c.add_record.ensures.was_clean clean in
     let other : c.in-Err.error ≢ not_unique = λ is. true≢false (sym (c.is_not_unique.ensures.1 is) ∙ c.if-is_not_unique.false) in
-    rw c.refused.ensures.is (so_caused _ _ _ (λ why fails. put_fails old mid c.args.name.now c.args.key.now c.args.row.now why (inr (true, fails)))
+    rw c.refused.ensures.is (so_caused _ _ _ (add_fails old mid c.args.name.now c.args.key.now c.args.row.now)
     (write_caused old mid (puts true c.args.name.now c.args.key.now (row_bytes c.args.row.now)) c.in-Err.error (declared old sound was)
     (λ e is unique. absurd (other (is ∙ ap (λ (error : Error). Database error) unique)))
     (rw (c.bytes.ensures, spelled) at (c.in-Err.ensures.failed clean))))
@@ -93,7 +93,7 @@ returns-clause-caused g c sound inside clean =
 pub returns-in-Err-clause-caused : goal.returns-in-Err-clause-caused
 returns-in-Err-clause-caused g c sound inside clean =
     let old = state g.S.Store c.args.conn.now in
-    let mid = state g.S.Store c.put_record.new.conn in
+    let mid = state g.S.Store c.add_record.new.conn in
     let new = state g.S.Store c.expect_row.new.conn in
     let name = c.args.name.now in
     let key = c.args.key.now in
@@ -101,11 +101,11 @@ returns-in-Err-clause-caused g c sound inside clean =
     let Is : State → Statement → Type 0 = Writes (λ held write. (held ≡ tables_in old.now) × (write ≡ puts_row name key row)) in
     let spelled : c.deref.result.now ≡ row_bytes row = search rules in
     let now = was_clean mid new c.expect_row.ensures.keeps_crash clean in
-    let was = c.put_record.ensures.was_clean now in
+    let was = c.add_record.ensures.was_clean now in
     let unique = c.is_not_unique.ensures.0 c.if-is_not_unique.true in
     let same : IsUnchanged old mid = c.in-Err.ensures.refused now unique in
-    let kept = put_keeps old mid c.put_record.result name key row c.bytes.result.now c.deref.result.now sound inside c.requires c.bytes.ensures spelled c.put_record.ensures.survives c.put_record.ensures.set
-    c.put_record.ensures.goes_on c.put_record.ensures.marks c.put_record.ensures.rests in
+    let kept = put_keeps old mid c.add_record.result name key row c.bytes.result.now c.deref.result.now sound inside c.requires c.bytes.ensures spelled c.add_record.ensures.survives c.add_record.ensures.set
+    c.add_record.ensures.goes_on c.add_record.ensures.marks c.add_record.ensures.rests in
     let fits = c.requires was in
     let holds = shows_state old sound inside was in
     let there : IsDeclared (tables_in mid.now) name = subst (λ (db : Shown). IsDeclared (tables_in db) name) (sym same.0.now_is) (declared_by (tables_in old.now) name key row fits) in

@@ -32,7 +32,7 @@ returns-clause-caused g c sound inside clean =
     let new = state g.S.Store c.put_record.new.conn in
     let spelled : c.deref.result.now ≡ declaration_bytes c.args.schema.now = search rules in
     caused_write _ old new (puts false [] c.args.name.now (declaration_bytes c.args.schema.now)) c.put_record.result c.map_err.result c.map_err.ensures.cases (λ f e it. it.0)
-    (declared old sound (c.put_record.ensures.was_clean clean)) (λ e same. tt) (rw (c.as_bytes.ensures.value, spelled) at (c.put_record.ensures.failed clean))
+    (declared old sound (c.put_record.ensures.was_clean clean)) tt (rw (c.as_bytes.ensures.value, spelled) at (c.put_record.ensures.failed clean))
 
 pub returns-clause-leads : goal.returns-clause-leads
 returns-clause-leads g c sound inside clean =
