@@ -6,7 +6,7 @@ use Rattle.sqlite.specs.Held.{state}
 use Rattle.sqlite.specs.State.{HasCleanDisk}
 use Rattle.cs_store_sql.specs.Marks.{HasMark}
 use Rattle.cs_store_tables.specs.Laws.{was_clean}
-use Rattle.cs_store_tables.specs.Store.{IsKnown, tables_in}
+use Rattle.cs_store_tables.specs.Store.{IsKnown}
 use Rattle.cs_store_tables.proofs.StoreLemmas.{back_store, dropped_sound}
 use Rattle.cs_store.proofs.transaction.Transaction.release.Goals as goal
 
@@ -34,7 +34,7 @@ invariant_of-store g c =
           let was = was_clean old new survives clean in
           let mark = has was in
           let shown = (c.in-Ok.ensures.released mark.0 mark.1 mark.2 clean).0 in
-          subst (λ (db : Database). IfSome c.store.inside.known (IsKnown (tables_in db))) (sym shown.now_is) (c.store.invariant.1 was),
+          subst (λ (db : Database). IfSome c.store.inside.known (IsKnown db)) (sym shown.now_is) (c.store.invariant.1 was),
     )
 
 pub returns-in-Err : goal.returns-in-Err
