@@ -189,8 +189,7 @@ impl<S: Start> Store<FileStore<FileFrom<S>>> {
     ///
     /// # Errors
     ///
-    /// `StoreFault` if the database refuses, and `NoMemory` if out of memory. What was committed is kept
-    /// ([`close_files`](Store::close_files)).
+    /// Those of [`close_files`](Store::close_files), which keeps what was committed.
     pub fn close(self) -> Result<(), StoreError>
         ensures named { IfErr result IsResource }
     {

@@ -182,13 +182,11 @@ impl<S: Alter + Drop> Transaction<S> {
         }
     }
 
-    /// Goes back to the newest mark, and drops it. If the transaction is open, the mark must be there, and must have
-    /// been set where it showed tables.
+    /// Goes back to the newest mark, and drops it. An open transaction must have one, set where it showed tables.
     ///
     /// # Errors
     ///
-    /// `StoreFault` if the transaction has ended or the database refuses, and `NoMemory` if out of memory. The
-    /// transaction has ended then, and the store is as it was when the transaction began.
+    /// Those of [`mark`](Transaction::mark).
     pub fn go_back(&mut self) -> Result<(), StoreError>
         requires { HasCleanDisk (state S.Store self.old) → IsTrue (state S.Store self.old).in_transaction
             → HasBefore (state S.Store self.old) }
@@ -224,8 +222,7 @@ impl<S: Alter + Drop> Transaction<S> {
     ///
     /// # Errors
     ///
-    /// `StoreFault` if the database refuses, and `NoMemory` if out of memory. The transaction has ended then, and the
-    /// store is as it was when the transaction began.
+    /// Those of [`release`](Transaction::release).
     pub fn end_call(&mut self, accepted: bool) -> Result<(), StoreError>
         requires inside { IsTrue accepted → HasCleanDisk (state S.Store self.old)
             → IsTrue (state S.Store self.old).in_transaction }
@@ -284,8 +281,7 @@ impl<S: Alter> Transaction<S> {
     ///
     /// # Errors
     ///
-    /// `StoreFault` if the database refuses, and `NoMemory` if out of memory. `DamagedStore` if the disk does not
-    /// return what was written.
+    /// Those of [`Store::tables`].
     pub fn tables(&mut self, alloc: Global) -> Result<Vec<String>, StoreError>
         ensures listed { HasCleanDisk (state S.Store self.new) → IfOk result (λ names. map_list string_bytes names.items
             ≡ map.keys (tables_in (state S.Store self.old).now)) }
@@ -466,8 +462,7 @@ impl<S: Alter> Transaction<S> {
 impl<S: Alter + Drop> Transaction<S> {
     /// Declares a table without rows.
     ///
-    /// `columns` has the names of its columns. Those marked in `keys` are the key. Those of the key and those marked in
-    /// `refuses` refuse NULL.
+    /// `columns`, `keys` and `refuses` are as for [`Store::declare`].
     ///
     /// # Errors
     ///
