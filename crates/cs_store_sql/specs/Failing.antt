@@ -113,8 +113,8 @@ CannotRead old new error = HasDiskFailed old new error ⊎ ((error ≡ SqliteFai
 abbrev pub ChangesNothing : {X E : Type 0} → State → State → Result X E → Type 0
 ChangesNothing old new result = HasCleanDisk new → OnOk result (IsUnchanged old new)
 
-abbrev pub ReadFails : {X : Type 0} → State → State → Result X RecordsError → Type 0
-ReadFails old new result =
+abbrev pub FailsAsRead : {X : Type 0} → State → State → Result X RecordsError → Type 0
+FailsAsRead old new result =
     HasCleanDisk new → (IsTrue old.is_open → DeclaresRecords old.now.schema) → IfErr result (IsFailure (CannotRead old new))
 
 -- A refused call changes nothing, or its failure took the database back to the last commit.

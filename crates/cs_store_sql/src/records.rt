@@ -6,7 +6,7 @@ ghost use Rattle.sqlite.specs.Held.{state};
 ghost use Rattle.sqlite_sql.specs.Aggregate.{count};
 ghost use Rattle.sqlite.specs.Values.{bound};
 ghost use Rattle.cs_store_sql.specs.Failing.{CannotCreate, CannotMake, CannotRead, EndsAs, FailsAt, IsFailure};
-ghost use Rattle.cs_store_sql.specs.Failing.{ChangesNothing, KeepsCrashInside, ReadFails, RefusalRests, put_at, remove_at};
+ghost use Rattle.cs_store_sql.specs.Failing.{ChangesNothing, KeepsCrashInside, FailsAsRead, RefusalRests, put_at, remove_at};
 ghost use Rattle.cs_store_sql.specs.Records.{HoldsRecords, IsAt, IsPlaced, Sets, ListsTable, ListsPage, Counts, records_in};
 ghost use Rattle.cs_store_sql.specs.Records.{Makes, GoesOn, KeepsCrash, IsQuery, shown_keyed, LacksRecords, KeepsOthers, record_rows};
 
@@ -205,7 +205,7 @@ pub fn list_records<S: Alter>(
         → IfOk result (λ listed. ListsTable (records_in (state S.Store conn.old).now) tab.now listed.items) }
     ensures reads { ChangesNothing (state S.Store conn.old) (state S.Store conn.new) result }
     ensures rests { RefusalRests (state S.Store conn.old) (state S.Store conn.new) result }
-    ensures failed { ReadFails (state S.Store conn.old) (state S.Store conn.new) result }
+    ensures failed { FailsAsRead (state S.Store conn.old) (state S.Store conn.new) result }
     ensures keeps_crash { KeepsCrash (state S.Store conn.old) (state S.Store conn.new) }
 {
     let rows = query_rows(conn, texts::LIST, params![tab])?;
@@ -231,7 +231,7 @@ pub fn count_records<S: Alter>(conn: &mut Connection<S>, tab: &str) -> Result<u6
         → IfOk result (Counts (records_in (state S.Store conn.old).now) tab.now) }
     ensures reads { ChangesNothing (state S.Store conn.old) (state S.Store conn.new) result }
     ensures rests { RefusalRests (state S.Store conn.old) (state S.Store conn.new) result }
-    ensures failed { ReadFails (state S.Store conn.old) (state S.Store conn.new) result }
+    ensures failed { FailsAsRead (state S.Store conn.old) (state S.Store conn.new) result }
     ensures keeps_crash { KeepsCrash (state S.Store conn.old) (state S.Store conn.new) }
 {
     let rows = query_rows(conn, texts::COUNT, params![tab])?;
@@ -255,7 +255,7 @@ pub fn list_page<S: Alter>(
         after.now limit listed.items) }
     ensures reads { ChangesNothing (state S.Store conn.old) (state S.Store conn.new) result }
     ensures rests { RefusalRests (state S.Store conn.old) (state S.Store conn.new) result }
-    ensures failed { ReadFails (state S.Store conn.old) (state S.Store conn.new) result }
+    ensures failed { FailsAsRead (state S.Store conn.old) (state S.Store conn.new) result }
     ensures keeps_crash { KeepsCrash (state S.Store conn.old) (state S.Store conn.new) }
 {
     let rows = query_rows(conn, texts::PAGE, params![tab, after, limit as i64])?;
