@@ -15,6 +15,7 @@ mod PlaceLemmas
 pub mod QueryLemmas
 pub mod QueryTexts
 pub mod ReadFailures
+mod RecordLemmas
 pub mod RemoveLemmas
 pub mod ReplaceLemmas
 pub mod RowLemmas

@@ -19,7 +19,7 @@ use Rattle.cs_store_sql.specs.declared.fault.RecordsError.{RecordsError}
 use Rattle.cs_store_sql.specs.declared.fault.RecordsError.TheVariants as records
 use Rattle.cs_store_sql.specs.declared.records.Place.{Place}
 use Rattle.cs_store_sql.specs.declared.records.Place.TheVariants as place
-use Rattle.cs_store_sql.specs.Records.{DeclaresRecords, HoldsRecords, IsUndone, IsUnsupported, KeepsCrash, Makes, Rests}
+use Rattle.cs_store_sql.specs.Records.{DeclaresRecords, GoesOn, HoldsRecords, IsUndone, IsUnsupported, KeepsCrash, Makes, Rests, Sets}
 use Rattle.cs_store_sql.specs.Statements.{create_text, put_text, replace_text, remove_text, take_text, Creates}
 
 -- Out of memory, or the database failed with another error, and `Fails` holds of it.
@@ -111,8 +111,8 @@ CannotRead old new error = HasDiskFailed old new error ⊎ ((error ≡ SqliteFai
 abbrev pub ChangesNothing : {X E : Type 0} → State → State → Result X E → Type 0
 ChangesNothing old new result = HasCleanDisk new → OnOk result (IsUnchanged old new)
 
-abbrev pub ReadFails : {X : Type 0} → State → State → Result X RecordsError → Type 0
-ReadFails old new result =
+abbrev pub FailsAsRead : {X : Type 0} → State → State → Result X RecordsError → Type 0
+FailsAsRead old new result =
     HasCleanDisk new → (IsTrue old.is_open → DeclaresRecords old.now.schema) → IfErr result (IsFailure (CannotRead old new))
 
 -- A refused call changes nothing, or its failure took the database back to the last commit.
@@ -127,6 +127,19 @@ RefusalUndoes old new result = HasCleanDisk new → OnErr result (IsUndone old n
 abbrev pub KeepsCrashInside : State → State → Type 0
 KeepsCrashInside old new =
     (HasCleanDisk old → HoldsRecords old.now) → (HasCleanDisk old → IsTrue old.in_transaction) → KeepsCrash old new
+
+-- A statement writes this, or nothing, under a name and a key, inside a transaction on a database that holds records. If
+-- it is accepted, the transaction goes on with its marks, and shows what the statement makes.
+pub record WritesRecord (old new : State) (statement : Statement) (tab key : List ℕ) (here : Option (List ℕ))
+    (result : Result (Unit {0}) RecordsError) : Type 0 where
+  pub set : HasCleanDisk new → HoldsRecords old.now → OnOk result (Sets old.now new.now tab key here)
+  pub ends : HasCleanDisk new → HoldsRecords old.now → OnOk result (EndsAs old statement new)
+  pub goes_on : HasCleanDisk new → HoldsRecords old.now → IsTrue old.in_transaction → OnOk result (GoesOn old new)
+  pub marks : HasCleanDisk new → HoldsRecords old.now → OnOk result (new.marks ≡ old.marks)
+  pub rests : RefusalRests old new result
+  pub failed : HasCleanDisk new → IfErr result (IsFailure (FailsAt old new statement))
+  pub was_clean : HasCleanDisk new → HasCleanDisk old
+  pub survives : KeepsCrashInside old new
 
 -- ---- transactions
 

@@ -1,9 +1,5 @@
 //! Why a call on records is refused.
-ghost use Rattle.std.specs.Prelude.{◌≡◌, ◌↔◌, IsTrue};
-ghost use Rattle.cs_store_sql.specs.Faults.{not_unique};
-
 use sqlite::{Error, ErrorCode};
-use sqlite_schema::schema::Constraint;
 use std::alloc::{AllocError, AllocFailed};
 use thiserror::Error as ErrorOf;
 
@@ -14,20 +10,6 @@ pub enum RecordsError {
     NoMemory,
     #[error("the database refused")]
     Database(Error),
-}
-
-impl RecordsError {
-    /// Whether the database refused a record as one that is not unique.
-    pub fn is_not_unique(&self) -> bool
-        ensures { IsTrue result ↔ (self.now ≡ not_unique) }
-    {
-        matches!(
-            self,
-            RecordsError::Database(Error::SqliteFailure(ErrorCode::ConstraintViolation(
-                Constraint::Unique
-            )))
-        )
-    }
 }
 
 impl From<Error> for RecordsError {

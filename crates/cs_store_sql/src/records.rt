@@ -5,10 +5,10 @@ ghost use Rattle.sqlite.specs.State.{FailsToQuery, HasCleanDisk, IsUnchanged, Ke
 ghost use Rattle.sqlite.specs.Held.{state};
 ghost use Rattle.sqlite_sql.specs.Aggregate.{count};
 ghost use Rattle.sqlite.specs.Values.{bound};
-ghost use Rattle.cs_store_sql.specs.Failing.{CannotCreate, CannotMake, CannotRead, EndsAs, FailsAt, IsFailure};
-ghost use Rattle.cs_store_sql.specs.Failing.{ChangesNothing, KeepsCrashInside, ReadFails, RefusalRests, puts, put_at, remove_at};
+ghost use Rattle.cs_store_sql.specs.Failing.{CannotCreate, CannotMake, CannotRead, IsFailure};
+ghost use Rattle.cs_store_sql.specs.Failing.{ChangesNothing, FailsAsRead, RefusalRests, WritesRecord, puts, put_at, remove_at};
 ghost use Rattle.cs_store_sql.specs.Faults.{not_unique};
-ghost use Rattle.cs_store_sql.specs.Records.{HoldsRecords, IsAt, IsPlaced, Sets, ListsTable, ListsPage, Counts, records_in};
+ghost use Rattle.cs_store_sql.specs.Records.{HoldsRecords, IsAt, IsPlaced, ListsTable, ListsPage, Counts, records_in};
 ghost use Rattle.cs_store_sql.specs.Records.{Makes, GoesOn, KeepsCrash, IsQuery, shown_keyed, LacksRecords, KeepsOthers, record_rows};
 
 use crate::fault::RecordsError;
@@ -115,24 +115,10 @@ pub fn add_record<S: Alter>(
 ) -> Result<(), RecordsError>
     ensures free { HasCleanDisk (state S.Store conn.new) → HoldsRecords (state S.Store conn.old).now
         → OnOk result (records_in (state S.Store conn.old).now tab.now key.now ≡ None) }
-    ensures set { HasCleanDisk (state S.Store conn.new) → HoldsRecords (state S.Store conn.old).now
-        → OnOk result (Sets (state S.Store conn.old).now (state S.Store conn.new).now
-        tab.now key.now (Some value.now)) }
-    ensures ends { HasCleanDisk (state S.Store conn.new) → HoldsRecords (state S.Store conn.old).now
-        → OnOk result (EndsAs (state S.Store conn.old) (puts true tab.now key.now value.now)
-        (state S.Store conn.new)) }
-    ensures goes_on { HasCleanDisk (state S.Store conn.new) → HoldsRecords (state S.Store conn.old).now
-        → IsTrue (state S.Store conn.old).in_transaction
-        → OnOk result (GoesOn (state S.Store conn.old) (state S.Store conn.new)) }
-    ensures marks { HasCleanDisk (state S.Store conn.new) → HoldsRecords (state S.Store conn.old).now
-        → OnOk result ((state S.Store conn.new).marks ≡ (state S.Store conn.old).marks) }
-    ensures rests { RefusalRests (state S.Store conn.old) (state S.Store conn.new) result }
     ensures refused { HasCleanDisk (state S.Store conn.new) → IfErr result (λ e. e ≡ not_unique
         → IsUnchanged (state S.Store conn.old) (state S.Store conn.new)) }
-    ensures failed { HasCleanDisk (state S.Store conn.new) → IfErr result (IsFailure (FailsAt
-        (state S.Store conn.old) (state S.Store conn.new) (puts true tab.now key.now value.now))) }
-    ensures was_clean { HasCleanDisk (state S.Store conn.new) → HasCleanDisk (state S.Store conn.old) }
-    ensures survives { KeepsCrashInside (state S.Store conn.old) (state S.Store conn.new) }
+    ensures writes { WritesRecord (state S.Store conn.old) (state S.Store conn.new)
+        (puts true tab.now key.now value.now) tab.now key.now (Some value.now) result }
 {
     conn.execute(texts::INSERT, params![tab, key, value])?;
     Ok(())
@@ -149,22 +135,8 @@ pub fn put_record<S: Alter>(
 ) -> Result<(), RecordsError>
     requires { HasCleanDisk (state S.Store conn.old) → HoldsRecords (state S.Store conn.old).now
         → IsPlaced (state S.Store conn.old).now tab.now key.now place }
-    ensures set { HasCleanDisk (state S.Store conn.new) → HoldsRecords (state S.Store conn.old).now
-        → OnOk result (Sets (state S.Store conn.old).now (state S.Store conn.new).now
-        tab.now key.now (Some value.now)) }
-    ensures ends { HasCleanDisk (state S.Store conn.new) → HoldsRecords (state S.Store conn.old).now
-        → OnOk result (EndsAs (state S.Store conn.old) (put_at place tab.now key.now value.now)
-        (state S.Store conn.new)) }
-    ensures goes_on { HasCleanDisk (state S.Store conn.new) → HoldsRecords (state S.Store conn.old).now
-        → IsTrue (state S.Store conn.old).in_transaction
-        → OnOk result (GoesOn (state S.Store conn.old) (state S.Store conn.new)) }
-    ensures marks { HasCleanDisk (state S.Store conn.new) → HoldsRecords (state S.Store conn.old).now
-        → OnOk result ((state S.Store conn.new).marks ≡ (state S.Store conn.old).marks) }
-    ensures rests { RefusalRests (state S.Store conn.old) (state S.Store conn.new) result }
-    ensures failed { HasCleanDisk (state S.Store conn.new) → IfErr result
-        (IsFailure (FailsAt (state S.Store conn.old) (state S.Store conn.new) (put_at place tab.now key.now value.now))) }
-    ensures was_clean { HasCleanDisk (state S.Store conn.new) → HasCleanDisk (state S.Store conn.old) }
-    ensures survives { KeepsCrashInside (state S.Store conn.old) (state S.Store conn.new) }
+    ensures { WritesRecord (state S.Store conn.old) (state S.Store conn.new)
+        (put_at place tab.now key.now value.now) tab.now key.now (Some value.now) result }
 {
     match place {
         Place::Unknown => conn.execute(texts::PUT, params![tab, key, value])?,
@@ -183,20 +155,8 @@ pub fn remove_record<S: Alter>(
 ) -> Result<(), RecordsError>
     requires { HasCleanDisk (state S.Store conn.old) → HoldsRecords (state S.Store conn.old).now
         → IsPlaced (state S.Store conn.old).now tab.now key.now place }
-    ensures removed { HasCleanDisk (state S.Store conn.new) → HoldsRecords (state S.Store conn.old).now
-        → OnOk result (Sets (state S.Store conn.old).now (state S.Store conn.new).now tab.now key.now None) }
-    ensures ends { HasCleanDisk (state S.Store conn.new) → HoldsRecords (state S.Store conn.old).now
-        → OnOk result (EndsAs (state S.Store conn.old) (remove_at place tab.now key.now) (state S.Store conn.new)) }
-    ensures goes_on { HasCleanDisk (state S.Store conn.new) → HoldsRecords (state S.Store conn.old).now
-        → IsTrue (state S.Store conn.old).in_transaction
-        → OnOk result (GoesOn (state S.Store conn.old) (state S.Store conn.new)) }
-    ensures marks { HasCleanDisk (state S.Store conn.new) → HoldsRecords (state S.Store conn.old).now
-        → OnOk result ((state S.Store conn.new).marks ≡ (state S.Store conn.old).marks) }
-    ensures rests { RefusalRests (state S.Store conn.old) (state S.Store conn.new) result }
-    ensures failed { HasCleanDisk (state S.Store conn.new) → IfErr result
-        (IsFailure (FailsAt (state S.Store conn.old) (state S.Store conn.new) (remove_at place tab.now key.now))) }
-    ensures was_clean { HasCleanDisk (state S.Store conn.new) → HasCleanDisk (state S.Store conn.old) }
-    ensures survives { KeepsCrashInside (state S.Store conn.old) (state S.Store conn.new) }
+    ensures { WritesRecord (state S.Store conn.old) (state S.Store conn.new)
+        (remove_at place tab.now key.now) tab.now key.now None result }
 {
     match place {
         Place::At(rowid) => conn.execute(texts::TAKE, params![rowid])?,
@@ -236,7 +196,7 @@ pub fn list_records<S: Alter>(
         → IfOk result (λ listed. ListsTable (records_in (state S.Store conn.old).now) tab.now listed.items) }
     ensures reads { ChangesNothing (state S.Store conn.old) (state S.Store conn.new) result }
     ensures rests { RefusalRests (state S.Store conn.old) (state S.Store conn.new) result }
-    ensures failed { ReadFails (state S.Store conn.old) (state S.Store conn.new) result }
+    ensures failed { FailsAsRead (state S.Store conn.old) (state S.Store conn.new) result }
     ensures keeps_crash { KeepsCrash (state S.Store conn.old) (state S.Store conn.new) }
 {
     let rows = query_rows(conn, texts::LIST, params![tab])?;
@@ -262,7 +222,7 @@ pub fn count_records<S: Alter>(conn: &mut Connection<S>, tab: &str) -> Result<u6
         → IfOk result (Counts (records_in (state S.Store conn.old).now) tab.now) }
     ensures reads { ChangesNothing (state S.Store conn.old) (state S.Store conn.new) result }
     ensures rests { RefusalRests (state S.Store conn.old) (state S.Store conn.new) result }
-    ensures failed { ReadFails (state S.Store conn.old) (state S.Store conn.new) result }
+    ensures failed { FailsAsRead (state S.Store conn.old) (state S.Store conn.new) result }
     ensures keeps_crash { KeepsCrash (state S.Store conn.old) (state S.Store conn.new) }
 {
     let rows = query_rows(conn, texts::COUNT, params![tab])?;
@@ -286,7 +246,7 @@ pub fn list_page<S: Alter>(
         after.now limit listed.items) }
     ensures reads { ChangesNothing (state S.Store conn.old) (state S.Store conn.new) result }
     ensures rests { RefusalRests (state S.Store conn.old) (state S.Store conn.new) result }
-    ensures failed { ReadFails (state S.Store conn.old) (state S.Store conn.new) result }
+    ensures failed { FailsAsRead (state S.Store conn.old) (state S.Store conn.new) result }
     ensures keeps_crash { KeepsCrash (state S.Store conn.old) (state S.Store conn.new) }
 {
     let rows = query_rows(conn, texts::PAGE, params![tab, after, limit as i64])?;

@@ -53,7 +53,8 @@ WriteFails old new statement = IsCauseOf (λ error. IsAptFor old.now statement e
 abbrev pub IsOutside : State → Cause → Type 0
 IsOutside s cause = (s.in_transaction ≡ false) × (cause ≡ Other)
 
--- A row is not put, and not removed, by the statement for a place of the row with its key.
+-- A row is not put, and a row is not removed: no transaction is open, or the statement fails that a store makes where
+-- the row of the key is at this place.
 abbrev pub PutFails : State → State → List ℕ → List ℕ → List OwnedValue → Cause → Type 0
 PutFails old new name key row cause = IsOutside old cause
     ⊎ ((place : Place) × WriteFails old new (put_at place name key (row_bytes row)) cause)

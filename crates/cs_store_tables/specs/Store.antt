@@ -63,7 +63,7 @@ IsSound s = HasCleanDisk s → IsStore s
 abbrev pub KnownData : Type 0
 KnownData = List ℕ × tables.SchemaData × Option (List ℕ × Place)
 
--- in this database the table has that schema, and the row of the key, where there is one, is at that place
+-- in this database the table has that schema, and the row of the key, if a key is known, is at that place
 pub record IsKnown (db : Database) (known : KnownData) : Type 0 where
   pub schema : tables.schema_at (tables_in db) known.0 ≡ Some known.1
   pub placed : IfSome known.2 (λ sought. IsPlaced db known.0 sought.0 sought.1)
@@ -72,7 +72,7 @@ pub record IsKnown (db : Database) (known : KnownData) : Type 0 where
 abbrev pub Knows : State → Option KnownData → Type 0
 Knows s known = HasCleanDisk s → IfSome known (IsKnown s.now)
 
--- what is known, but of no key
+-- what is known of a table, without the key
 abbrev pub without_key : Option KnownData → Option KnownData
 without_key known = option_map (λ t. (t.0, t.1, None)) known
 

@@ -23,7 +23,7 @@ ghost use Rattle.cs_store_tables.specs.Pages.{page_in};
 ghost use Rattle.cs_store_tables.specs.Store.{IsSound, KeepsStore, Recovers, RecoversList, RefusesShut};
 ghost use Rattle.cs_store_tables.specs.Store.{AddsTable, AreNamed, AreStored, tables_in};
 
-use crate::refusal::refused;
+use crate::refusal::{is_not_unique, refused};
 use cs_rows::{Schema, StoreError};
 use cs_store_encoding::{read_declaration, read_name, read_row, write_declaration};
 use cs_store_sql::{
@@ -339,7 +339,7 @@ pub fn add_row<S: Alter>(
     row_write(&mut bytes, row)?;
     match add_record(conn, name, key.bytes(), &bytes) {
         Ok(()) => Ok(true),
-        Err(error) if error.is_not_unique() => expect_row(conn, name, key, error),
+        Err(error) if is_not_unique(&error) => expect_row(conn, name, key, error),
         Err(error) => Err(refused(error)),
     }
 }
