@@ -609,9 +609,9 @@ impl<S: Alter> Rows for Transaction<S> {
         cs_store_tables::find_row(&mut store.conn, &mut store.known, alloc, table, key)
     }
 
-    fn add(&mut self, alloc: Global, table: &str, key: &Key, row: &Row) -> Result<bool, StoreError> {
+    fn add(&mut self, alloc: Global, name: &str, key: &Key, row: &Row) -> Result<bool, StoreError> {
         let store = &mut self.store;
-        cs_store_tables::add_row(&mut store.conn, &mut store.known, alloc, table, key, row)
+        cs_store_tables::add_row(&mut store.conn, &mut store.known, alloc, name, key, row)
     }
 
     fn put(&mut self, alloc: Global, table: &str, key: &Key, row: &Row) -> Result<(), StoreError> {

@@ -258,11 +258,7 @@ fn rows_in(alloc: Global, schema: &Schema, listed: &[Keyed]) -> Result<Vec<Row>,
 }
 
 /// Whether a row of a declared table has this key.
-fn has_row<S: Alter>(
-    conn: &mut Connection<S>,
-    name: &str,
-    key: &Key,
-) -> Result<bool, StoreError>
+fn has_row<S: Alter>(conn: &mut Connection<S>, name: &str, key: &Key) -> Result<bool, StoreError>
     ensures found { IsSound (state S.Store conn.old) → HasCleanDisk (state S.Store conn.new)
         → IsDeclared (tables_in (state S.Store conn.old).now) name.now
         → IfOk result (λ has. has ≡ is_some (row_at (tables_in (state S.Store conn.old).now) name.now key.now)) }
