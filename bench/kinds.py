@@ -57,7 +57,6 @@ INVERTS = "the file is checked, for repeated keys too; SQLite copies INSERTs unr
 CHECKS_BOTH = "both files are checked to their ends first; crafted keys fall into one bucket"
 KEYS = "a number of each key of a table is kept unless they rise, to find repeated ones"
 COPIES = "the bytes are made apart, and then copied into the buffer of the caller"
-VALUES = "each call reads its change up to the value: the square of the columns in all"
 RECORDS = "the file is checked page by page and index by index, and then each record is decoded"
 OPENS = "the store is opened first (`opening a store`), and each row is a record of one table"
 ON_KIT = OPENS + "; the kit copies a blob five times"
@@ -115,7 +114,7 @@ KINDS = (
     call("invert", "file", ALL, INVERTS, COPIES),
     call("concat", "file more", PAIRS, CHECKS_BOTH, COPIES),
     call("check", "file", ALL, CHECKS, KEYS),
-    call("next", "file", ALL, VALUES, UNKNOWN),
+    call("next", "file", ALL, UNKNOWN, UNKNOWN),
     command("invert", " out", "invert other file", ALL, INVERTS),
     command("concat", " more out", "concat other file more", PAIRS, CHECKS_BOTH),
     command("dump", "", "dump other file", ALL, CHECKS),

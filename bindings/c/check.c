@@ -3,7 +3,7 @@
 **
 **     check HEX | invert HEX | number_keys HEX | concat HEX HEX | dump HEX | sql HEX      where "-" stands for no bytes
 **     select HEX NAMES | concat_many HEX LENGTHS      NAMES in hexadecimal digits, LENGTHS too, four digits for each
-**     changes HEX               each change and each of its values, by vollikash_next and vollikash_value
+**     changes HEX               each change and each of its values, by vollikash_next, vollikash_value and vollikash_values
 **     ok HEX                    the bytes, or the text, that were made
 **     error CODE FILE PLACE     the report of a refusal
 **
@@ -100,35 +100,29 @@ static void add_hex(struct text *text, const char *before, const uint8_t *bytes,
     }
 }
 
-/* Checks that one call returns the values of a change on one side that a call for each does. */
-static void check_values(struct bytes file, const struct vollikash_change *change, int side)
+/* The values of a change on one side by one call, and after them one that is untouched. The caller frees them. */
+static struct vollikash_field *values_of(struct bytes file, const struct vollikash_change *change, int side)
 {
     size_t columns = change->columns, size = (columns + 1) * sizeof(struct vollikash_field);
-    struct vollikash_field *values = malloc(size), *before = malloc(size), value;
+    struct vollikash_field *values = malloc(size), *before = malloc(size);
     require(values != NULL && before != NULL, "out of memory");
     memset(values, UNTOUCHED, size);
     memset(before, UNTOUCHED, size);
-    require(columns == 0 || vollikash_values(file.at, file.count, change, side, values, columns - 1) == VOLLIKASH_NO_ROOM,
-            "the values have too little room");
-    require(vollikash_values(file.at, file.count, change, 2, values, columns + 1) == VOLLIKASH_RANGE, "there is a third side");
+    require(vollikash_values(file.at, file.count, change, side, values, columns - 1) == VOLLIKASH_NO_ROOM,
+            "the values have room where there is none");
+    require(vollikash_values(file.at, file.count, change, 2, values, columns) == VOLLIKASH_RANGE, "there is a third side");
     require(memcmp(values, before, size) == 0, "a value was touched");
-    require(vollikash_values(file.at, file.count, change, side, values, columns + 1) == VOLLIKASH_OK, "a change has no values");
-    for (size_t column = 0; column < columns; column++) {
-        vollikash_value(file.at, file.count, change, side, column, &value);
-        require(values[column].kind == value.kind && values[column].integer == value.integer &&
-                    values[column].offset == value.offset && values[column].length == value.length,
-                "a value differs from the one alone");
-    }
-    require(memcmp(&values[columns], before, sizeof value) == 0, "a value behind the last was touched");
-    free(values);
+    require(vollikash_values(file.at, file.count, change, side, values, columns + 1) == VOLLIKASH_OK,
+            "a change has no values");
+    require(memcmp(&values[columns], before, sizeof *values) == 0, "a value after the last column was touched");
     free(before);
+    return values;
 }
 
 /* The values of a change on one side, and a check that there is no further one. */
 static void add_side(struct text *text, struct bytes file, const struct vollikash_change *change, int side)
 {
-    struct vollikash_field value, before;
-    check_values(file, change, side);
+    struct vollikash_field value, before, *values = values_of(file, change, side);
     memset(&value, UNTOUCHED, sizeof value);
     before = value;
     require(vollikash_value(file.at, file.count, change, side, change->columns, &value) == VOLLIKASH_RANGE,
@@ -137,6 +131,9 @@ static void add_side(struct text *text, struct bytes file, const struct vollikas
     for (size_t column = 0; column < change->columns; column++) {
         int code = vollikash_value(file.at, file.count, change, side, column, &value);
         require(code == VOLLIKASH_OK, "a change has no value in a column");
+        require(values[column].kind == value.kind && values[column].integer == value.integer &&
+                    values[column].offset == value.offset && values[column].length == value.length,
+                "a value differs by the call for all");
         require(value.offset <= file.count && value.length <= file.count - value.offset, "a value is outside the file");
         require(value.kind == VOLLIKASH_INTEGER || value.integer == 0, "a value has an integer that it does not use");
         require(value.kind == VOLLIKASH_TEXT || value.kind == VOLLIKASH_BLOB ||
@@ -153,6 +150,7 @@ static void add_side(struct text *text, struct bytes file, const struct vollikas
             add_hex(text, value.kind == VOLLIKASH_TEXT ? " t" : " b", vollikash_bytes(file.at, &value), value.length);
         }
     }
+    free(values);
 }
 
 /*
