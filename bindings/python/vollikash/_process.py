@@ -246,9 +246,7 @@ class Process:
             unsent = unsent[sum(sent[writes:]):]
             held += sum(map(len, got[reads:]))
 
-    def turn(
-        self, unsent: Union[bytes, memoryview], sent: List[int], got: List[bytes]
-    ) -> None:
+    def turn(self, unsent: Union[bytes, memoryview], sent: List[int], got: List[bytes]) -> None:
         """Write and read what can be written and read at once, and wait until that is something.
 
         Raise `ProgramError` if the program does nothing for the time that an answer may take, or
@@ -263,6 +261,9 @@ class Process:
         if unsent:
             poll.register(self._stdin, select.POLLOUT)
         ready = [number for number, _ in poll.poll(self._wait)]
+        # The handler of a signal can have ended the program meanwhile.
+        if not self._ends.alive:
+            raise ProgramError(self._closed)
         if not ready:
             raise self._silent()
         if self._stderr in ready:
