@@ -11,7 +11,9 @@ from typing import (
 
 from ._conflicts import CHOICES, KINDS, Choice, Conflict, Found, Report
 from ._decoding import record_at, rows_at, varint_at
-from ._encoding import NULL, TEXTS, UNDEFINED, Unfit, integer, sized, spelled, utf8, varint
+from ._encoding import (
+    BLOBS, NULL, TEXTS, UNDEFINED, Unfit, integer, sized, spelled, utf8, varint,
+)
 from ._errors import Code, FrameTooLong, Kind, ProgramError, refused
 from ._schema import Schema
 from ._values import UNDEFINED as LEFT_OUT, Row, Value, shown
@@ -131,6 +133,8 @@ def _framed_row(start: bytes, values: Iterable[Value]) -> bytes:
             parts.append(TEXTS[size] + content if size < 256 else sized(TEXTS, content))
         elif value is None:
             parts.append(NULL)
+        elif kind is bytes:
+            parts.append(sized(BLOBS, value))  # type: ignore[arg-type]
         else:
             parts.append(field(value))
     call = b"".join(parts)

@@ -349,12 +349,6 @@ class Process:
         """Let nobody make a call, or let calls be made again."""
         self._is_free = self._is_open and not is_occupied
 
-    def ahead(self, keeps: bool = False) -> "Ahead":
-        """Return what sends calls before the answers to others are read, in a `with` block, and may
-        keep them. After it each call is answered.
-        """
-        return Ahead(self, keeps)
-
     def begin_ahead(self, ahead: "Ahead") -> Optional["Ahead"]:
         """Let calls be sent by something else, and return what has sent them before."""
         self._expect_free()
@@ -404,13 +398,16 @@ class Process:
 
 
 class Ahead:
-    """Calls that are sent before the answers to others are read. Most are answered DONE.
+    """Calls that are sent before the answers to others are read, in a `with` block. Most are
+    answered DONE. After the block each call is answered.
 
     Each attribute is replaced at once, so that an exception of a signal leaves it whole.
     """
 
-    def __init__(self, process: Process, keeps: bool) -> None:
-        self._process, self._keeps = process, keeps
+    def __init__(self, process: Process, keeps: bool = False) -> None:
+        self._process = process
+        # Whether the calls that were sent are kept, and those.
+        self._keeps = keeps
         self._kept: List[bytes] = []
         self._before: Optional[Ahead] = None
         # What was sent last, how many bytes of it are written, the number of calls that were sent,
@@ -466,6 +463,7 @@ class Ahead:
         _, _, count, calls = self._sent
         if calls:
             if self._keeps:
+                # After an exception of a signal this is done again.
                 self._kept[count:] = calls
             self._sent = b"".join(calls), [], count + len(calls), []
             self._write()
@@ -503,10 +501,8 @@ class Ahead:
     def _write(self) -> None:
         """Write what is sent, and read answers meanwhile."""
         frames, written, _, _ = self._sent
-        while True:
+        while sum(written) < len(frames):
             unsent = memoryview(frames)[sum(written):]
-            if not unsent:
-                break
             if not self._process.push(unsent, written):
                 self._process.turn(unsent, written, self._got[0])
                 self._note()

@@ -395,7 +395,7 @@ class Store:
         """Make the calls that insert rows in a transaction, which is rolled back after an error if
         it is their own. Otherwise leave none of the rows after one.
         """
-        ahead = self._process.ahead(keeps=not is_own)
+        ahead = Ahead(self._process, keeps=not is_own)
         try:
             try:
                 self._is_reading = self._is_watched = True
@@ -424,7 +424,7 @@ class Store:
         """Delete the rows that these calls have inserted, or end the program, and with it the
         transaction, if that fails.
         """
-        back = self._process.ahead()
+        back = Ahead(self._process)
         try:
             places = self._table(table).key_places() if frames else []
             rows = map(_calls.inserted_row, frames)
