@@ -6,15 +6,17 @@ its frame too. One that is not as specified raises `ProgramError`.
 import functools
 import struct
 from typing import (
-    Callable, Dict, Iterable, List, Mapping, NoReturn, Optional, Sequence, Tuple, TypeVar,
+    Callable, Dict, Iterable, Iterator, List, Mapping, Optional, Sequence, Tuple, TypeVar,
 )
 
 from ._conflicts import CHOICES, KINDS, Choice, Conflict, Found, Report
-from ._decoding import rows_at, varint_at
-from ._encoding import NULL, TEXTS, UNDEFINED, Unfit, integer, sized, spelled, utf8, varint
+from ._decoding import record_at, rows_at, varint_at
+from ._encoding import (
+    BLOBS, NULL, TEXTS, UNDEFINED, Unfit, integer, sized, spelled, utf8, varint,
+)
 from ._errors import Code, FrameTooLong, Kind, ProgramError, refused
 from ._schema import Schema
-from ._values import Row, Value, shown
+from ._values import UNDEFINED as LEFT_OUT, Row, Value, shown
 
 # The numbers of calls.
 (
@@ -99,40 +101,68 @@ def _start(number: int, table: str, width: int) -> bytes:
     return bytes([number]) + _name(table) + varint(width)
 
 
-def _raise_unfit(number: int, table: str, values: Sequence[Value]) -> NoReturn:
-    """Raise ValueError for what cannot be in the call of a row or a key."""
-    _name(table)
+def _unfit(number: int, table: str, values: Sequence[Value]) -> ValueError:
+    """Return the error that these values cannot be in the call of a row or a key."""
+    try:
+        _name(table)
+    except ValueError as error:
+        return error
     what = "key value" if number in (GET, DELETE, _ROWS) else "column"
-    for place, value in enumerate(values, 1):
+    is_row = isinstance(values, Iterable) and not isinstance(values, Mapping)
+    for place, value in enumerate(values if is_row else (), 1):
         try:
             field(value)
         except Unfit as error:
-            raise ValueError(f"table {shown(table)}, {what} {place}: {error}") from None
+            return ValueError(f"table {shown(table)}, {what} {place}: {error}")
     why = f"a row has its values in order, and is no {type(values).__name__}"
-    raise ValueError(f"table {shown(table)}: {why}")
+    return ValueError(f"table {shown(table)}: {why}")
+
+
+def _framed_row(start: bytes, values: Iterable[Value]) -> bytes:
+    """Return the frame of a call that begins so and ends with values. One that cannot be in a call
+    raises `struct.error` or ValueError.
+    """
+    parts = [start]
+    for value in values:
+        kind = type(value)
+        if kind is int:
+            parts.append(integer(1, value))
+        elif kind is str:
+            content = value.encode()  # type: ignore[union-attr]
+            size = len(content)
+            parts.append(TEXTS[size] + content if size < 256 else sized(TEXTS, content))
+        elif value is None:
+            parts.append(NULL)
+        elif kind is bytes:
+            parts.append(sized(BLOBS, value))  # type: ignore[arg-type]
+        else:
+            parts.append(field(value))
+    call = b"".join(parts)
+    return _size(len(call)) + call
 
 
 def row_call(number: int, table: str, values: Sequence[Value]) -> bytes:
     """Return the call GET, INSERT, DELETE or PUT, with the values of a row or a key."""
     try:
-        parts = [_start(number, table, len(values))]
-        add = parts.append
-        for value in values:
-            kind = type(value)
-            if kind is int:
-                add(integer(1, value))
-            elif kind is str:
-                content = value.encode()  # type: ignore[union-attr]
-                size = len(content)
-                add(TEXTS[size] + content if size < 256 else sized(TEXTS, content))
-            elif value is None:
-                add(NULL)
-            else:
-                add(field(value))
-        call = b"".join(parts)
-        return _size(len(call)) + call
+        return _framed_row(_start(number, table, len(values)), values)
     except (struct.error, TypeError, ValueError):
-        _raise_unfit(number, table, values)
+        raise _unfit(number, table, values) from None
+
+
+def insertions(table: str, rows: Iterable[Sequence[Value]]) -> Iterator[bytes]:
+    """Yield the call that inserts each row. Raise ValueError for one that is none."""
+    width, start = -1, b""
+    for number, row in enumerate(rows, 1):
+        try:
+            if type(row) not in (tuple, list) and isinstance(row, (str, bytes, Mapping)):
+                raise TypeError
+            if len(row) != width:
+                width = len(row)
+                start = _start(INSERT, table, width)
+            frame = _framed_row(start, row)
+        except (struct.error, TypeError, ValueError):
+            raise ValueError(f"row {number}: {_unfit(INSERT, table, row)}") from None
+        yield frame
 
 
 def _expect_name(name: str) -> None:
@@ -173,7 +203,7 @@ def rows(table: str, after: Optional[Sequence[Value]], limit: int) -> bytes:
         try:
             key = b"".join((_SOME, varint(len(after)), *map(field, after)))
         except Unfit:
-            _raise_unfit(_ROWS, table, after)
+            raise _unfit(_ROWS, table, after) from None
     return _framed(start, key, varint(limit))
 
 
@@ -409,11 +439,13 @@ read_limits = _reader(_ARE_LIMITS, _Answer.limits)
 
 def read_row(data: bytes) -> Optional[Row]:
     """Return the row of an answer, or None if it has none."""
-    if data[HEADER:_PARTS + 1] == _IS_THERE:
+    # One row is read faster as a record, if a byte has its width.
+    if data.startswith(_IS_THERE, HEADER):
         try:
-            (row,), at = rows_at(data, _PARTS + 1, 1)
-            if at == len(data):
-                return row
+            width = data[_PARTS + 1]
+            record, at = record_at(data, _PARTS + 2, width)
+            if 0 < width < 0x80 and at == len(data) and LEFT_OUT not in record:
+                return record  # type: ignore[return-value]
         except (IndexError, ValueError, struct.error):
             pass
     return _read_row(data)

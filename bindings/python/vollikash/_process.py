@@ -17,7 +17,7 @@ import threading
 import time
 import weakref
 from types import TracebackType
-from typing import List, Optional, Sequence, Tuple, Type, Union
+from typing import Iterable, List, Optional, Sequence, Tuple, Type, Union
 
 from ._calls import DONE, HEADER, is_refused
 from ._errors import Interrupted, ProgramError
@@ -34,11 +34,17 @@ _LONGEST = 0x7FFFFFFF
 # How many seconds pass between two looks whether a program has ended.
 _PAUSE = 0.01
 
+# How many milliseconds a call waits for its answer before it hears what the program says.
+_SOON = 10
+
 # How many bytes of calls are sent at once before their answers are read.
 _AHEAD = 1 << 14
 
 # How many milliseconds calls wait to be written before answers are read.
 _MOMENT = 5
+
+# How many answers are waited for one by one, and the fewest seconds that a program takes for one.
+_FEW, _LEAST = 20, 1e-6
 
 _size_at = struct.Struct(">I").unpack_from
 _read, _write = os.read, os.write
@@ -134,11 +140,8 @@ class Process:
         _OPEN.add(self)
         for number in (self._stdin, self._stdout, self._stderr):
             os.set_blocking(number, False)
-        poll = select.poll()
-        poll.register(self._stdout, select.POLLIN)
-        poll.register(self._stderr, select.POLLIN)
-        self._heard, self._poll, self._readable = poll, poll.poll, [(self._stdout, select.POLLIN)]
-        self._room = select.poll()
+        self._answer, self._room = select.poll(), select.poll()
+        self._answer.register(self._stdout, select.POLLIN)
         self._room.register(self._stdin, select.POLLOUT)
         self._said = b""
         self._is_heard = self._is_open = self._is_free = True
@@ -191,24 +194,15 @@ class Process:
         try:
             # It is free again after the answer, and not if another exception ends this before.
             self._is_free = False
-            sent.extend(map(_write, self._to, (frame,)))
-            if sent and sent[0] == len(frame):
-                ready = self._poll(self._wait)
-                if ready == self._readable:
-                    got.extend(map(_read, self._from, self._most))
-                    answer = got[0]
-                    size = len(answer) - HEADER
-                    # A short answer is written at once.
-                    if size >= 0 and size == _size_at(answer)[0]:
-                        self._is_free = True
-                        return answer
-                elif not ready:
-                    raise self._silent()
+            sent += map(_write, self._to, (frame,))
+            if sent == [len(frame)] and self._answer.poll(_SOON):
+                got += map(_read, self._from, self._most)
+                # A short answer is written at once.
+                if got == [DONE] or got and HEADER <= len(got[0]) == HEADER + _size_at(got[0])[0]:
+                    self._is_free = True
+                    return got[0]
         except (BlockingIOError, BrokenPipeError):
             pass
-        except ProgramError:
-            self.end()
-            raise
         except BaseException as caught:
             error = caught
         return self._finish(frame, sent, got, error)
@@ -252,9 +246,7 @@ class Process:
             unsent = unsent[sum(sent[writes:]):]
             held += sum(map(len, got[reads:]))
 
-    def turn(
-        self, unsent: Union[bytes, memoryview], sent: List[int], got: List[bytes]
-    ) -> None:
+    def turn(self, unsent: Union[bytes, memoryview], sent: List[int], got: List[bytes]) -> None:
         """Write and read what can be written and read at once, and wait until that is something.
 
         Raise `ProgramError` if the program does nothing for the time that an answer may take, or
@@ -269,6 +261,9 @@ class Process:
         if unsent:
             poll.register(self._stdin, select.POLLOUT)
         ready = [number for number, _ in poll.poll(self._wait)]
+        # The handler of a signal can have ended the program meanwhile.
+        if not self._ends.alive:
+            raise ProgramError(self._closed)
         if not ready:
             raise self._silent()
         if self._stderr in ready:
@@ -324,7 +319,6 @@ class Process:
         self._said = (self._said + said)[-_SAID:]
         if not said:
             self._is_heard = False
-            self._heard.unregister(self._stderr)
         return bool(said)
 
     def _text(self) -> str:
@@ -351,19 +345,9 @@ class Process:
         why = self._text().strip() or f"exit status {status}"
         return ProgramError(f"the program has ended: {why}", self._text())
 
-    def occupy(self) -> None:
-        """Let nobody make a call until `release`."""
-        self._is_free = False
-
-    def release(self) -> None:
-        """Let calls be made again: each is answered that was sent."""
-        self._is_free = self._is_open
-
-    def ahead(self) -> "Ahead":
-        """Return what sends calls before the answers to others are read, in a `with` block. After
-        it each call is answered.
-        """
-        return Ahead(self)
+    def occupy(self, is_occupied: bool) -> None:
+        """Let nobody make a call, or let calls be made again."""
+        self._is_free = self._is_open and not is_occupied
 
     def begin_ahead(self, ahead: "Ahead") -> Optional["Ahead"]:
         """Let calls be sent by something else, and return what has sent them before."""
@@ -414,18 +398,21 @@ class Process:
 
 
 class Ahead:
-    """Calls that are sent before the answers to others are read. Most are answered DONE.
+    """Calls that are sent before the answers to others are read, in a `with` block. Most are
+    answered DONE. After the block each call is answered.
 
     Each attribute is replaced at once, so that an exception of a signal leaves it whole.
     """
 
-    def __init__(self, process: Process) -> None:
+    def __init__(self, process: Process, keeps: bool = False) -> None:
         self._process = process
+        # Whether the calls that were sent are kept, and those.
+        self._keeps = keeps
+        self._kept: List[bytes] = []
         self._before: Optional[Ahead] = None
         # What was sent last, how many bytes of it are written, the number of calls that were sent,
-        # and those that are to be sent, of about so many bytes.
+        # and those that are to be sent.
         self._sent: Tuple[bytes, List[int], int, List[bytes]] = (b"", [], 0, [])
-        self._size = 0
         # What was read, the number of answers before that, and the answers other than DONE, each
         # with the number of its call from 0.
         self._got: Tuple[List[bytes], int, List[Tuple[int, bytes]]] = ([], 0, [])
@@ -456,25 +443,29 @@ class Ahead:
         if interrupted is not None:
             raise interrupted
 
-    def add(self, frame: bytes) -> None:
-        """Send a call, together with others."""
-        self._sent[3].append(frame)
-        self._size += len(frame)
-        if self._size >= _AHEAD:
-            self._process.expect_open()
-            self._process.occupy()
-            self._send()
-            self._process.pull(self._got[0])
-            self._note()
-            self._process.release()
+    def send(self, calls: Iterable[bytes]) -> None:
+        """Send calls until one is refused, many at once, and wait for their answers."""
+        size = 0
+        for call in calls:
+            self._sent[3].append(call)
+            size += len(call)
+            if size >= _AHEAD:
+                self._process.expect_open()
+                self.settle(waits=False)
+                size = 0
+            if self._got[2]:
+                break
+        self.settle()
 
     def _send(self) -> None:
         """Send the calls that are to be sent."""
         self._write()
         _, _, count, calls = self._sent
         if calls:
+            if self._keeps:
+                # After an exception of a signal this is done again.
+                self._kept[count:] = calls
             self._sent = b"".join(calls), [], count + len(calls), []
-            self._size = 0
             self._write()
 
     def others(self) -> List[Tuple[int, bytes]]:
@@ -483,27 +474,35 @@ class Ahead:
         """
         return self._got[2]
 
-    def done(self, calls: Sequence[bytes]) -> List[bytes]:
-        """Return those of all calls that are answered DONE."""
+    def done(self) -> List[bytes]:
+        """Return the calls that are answered DONE, of those that are kept."""
         others = {number for number, _ in self._got[2]}
-        return [it for number, it in enumerate(calls[:self._got[1]]) if number not in others]
+        return [it for number, it in enumerate(self._kept[:self._got[1]]) if number not in others]
 
-    def settle(self) -> None:
-        """Wait for the answer to each call."""
-        if self._process.is_open:
-            self._process.occupy()
-            self._send()
-            while self._note() < self._sent[2]:
-                self._process.turn(b"", [], self._got[0])
-            self._process.release()
+    def settle(self, waits: bool = True) -> None:
+        """Send the calls that are to be sent, and wait for the answer to each, or read what can be
+        read at once.
+        """
+        if not self._process.is_open:
+            return
+        self._process.occupy(True)
+        self._send()
+        if not waits:
+            self._process.pull(self._got[0])
+        left = self._sent[2] - self._note()
+        while waits and left:
+            # Otherwise each answer ends a wait.
+            if left > _FEW:
+                time.sleep(left * _LEAST)
+            self._process.turn(b"", [], self._got[0])
+            left = self._sent[2] - self._note()
+        self._process.occupy(False)
 
     def _write(self) -> None:
         """Write what is sent, and read answers meanwhile."""
         frames, written, _, _ = self._sent
-        while True:
+        while sum(written) < len(frames):
             unsent = memoryview(frames)[sum(written):]
-            if not unsent:
-                break
             if not self._process.push(unsent, written):
                 self._process.turn(unsent, written, self._got[0])
                 self._note()
@@ -530,7 +529,7 @@ class Ahead:
 
 
 # What writes and reads: a handler of a signal that makes a call runs above one of these.
-_EXCHANGING = {it.__code__ for it in (Process.ask, Process._finish, Ahead.add, Ahead.settle)}
+_EXCHANGING = {it.__code__ for it in (Process.ask, Process._finish, Ahead.settle)}
 
 
 def _leave_all() -> None:

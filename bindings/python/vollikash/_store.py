@@ -95,37 +95,6 @@ def _declared(columns: Iterable[str], key: Iterable[str], refuses: Iterable[str]
     )
 
 
-def _insertions(table: str, rows: Iterable[Sequence[Value]]) -> Iterator[bytes]:
-    """Yield the call that inserts each row. Raise ValueError for one that is none."""
-    for number, row in enumerate(rows, 1):
-        try:
-            if type(row) is not tuple and isinstance(row, (str, bytes, Mapping)):
-                raise TypeError
-            frame = _calls.row_call(_calls.INSERT, table, row)
-        except TypeError:
-            why = f"a row has its values in order, and is no {type(row).__name__}"
-            raise ValueError(f"row {number}: {why}") from None
-        except ValueError as error:
-            raise ValueError(f"row {number}: {error}") from None
-        yield frame
-
-
-def _kept(frames: Iterator[bytes], kept: List[bytes]) -> Iterator[bytes]:
-    """Yield calls, and keep them in a list."""
-    for frame in frames:
-        kept.append(frame)
-        yield frame
-
-
-def _send(ahead: Ahead, frames: Iterator[bytes]) -> None:
-    """Send calls until one is refused, and wait for their answers."""
-    for frame in frames:
-        ahead.add(frame)
-        if ahead.others():
-            break
-    ahead.settle()
-
-
 def _task() -> Optional[object]:
     """Return the task of asyncio that runs in this thread, if one does."""
     asyncio = sys.modules.get("asyncio")
@@ -420,25 +389,24 @@ class Store:
         `row`. An open transaction goes on without them.
         """
         with _Part(self, takes_back=True) as is_own:
-            self._insert_rows(table, _insertions(table, rows), is_own)
+            self._insert_rows(table, rows, is_own)
 
-    def _insert_rows(self, table: str, frames: Iterator[bytes], is_own: bool) -> None:
+    def _insert_rows(self, table: str, rows: Iterable[Sequence[Value]], is_own: bool) -> None:
         """Make the calls that insert rows in a transaction, which is rolled back after an error if
         it is their own. Otherwise leave none of the rows after one.
         """
-        kept: List[bytes] = []
-        ahead = self._process.ahead()
+        ahead = Ahead(self._process, keeps=not is_own)
         try:
             try:
                 self._is_reading = self._is_watched = True
                 with ahead:
-                    _send(ahead, frames if is_own else _kept(frames, kept))
+                    ahead.send(_calls.insertions(table, rows))
             finally:
                 self._is_reading, self._is_watched = False, self._is_begun
             self._expect_done(ahead)
         except BaseException:
             if not is_own and self._process.is_open:
-                self._take_back(table, ahead.done(kept))
+                self._take_back(table, ahead.done())
             raise
 
     def _expect_done(self, ahead: Ahead) -> None:
@@ -456,13 +424,13 @@ class Store:
         """Delete the rows that these calls have inserted, or end the program, and with it the
         transaction, if that fails.
         """
-        back = self._process.ahead()
+        back = Ahead(self._process)
         try:
             places = self._table(table).key_places() if frames else []
             rows = map(_calls.inserted_row, frames)
             keys = ([row[place] for place in places] for row in rows)
             with back:
-                _send(back, (_calls.row_call(_calls.DELETE, table, key) for key in keys))
+                back.send(_calls.row_call(_calls.DELETE, table, key) for key in keys)
             self._expect_done(back)
         except TransactionEnded:
             pass
@@ -646,7 +614,7 @@ class Store:
         rows = _exchange.read_rows(connection, table, schema.columns)
         with _Part(self, takes_back=True) as is_own:
             self.create(table, *schema, exist_ok=True)
-            self._insert_rows(table, _insertions(table, rows), is_own)
+            self._insert_rows(table, rows, is_own)
 
     def save_to(self, connection: "sqlite3.Connection", table: str) -> None:
         """Copy a table into an ordinary SQLite database, in one transaction.
