@@ -4,7 +4,7 @@ from __future__ import annotations
 
 from typing import NamedTuple
 
-from shapes import BLOB, CRAFTED, INSERTS, LONG, MADE, MIX, SHUFFLED, TEN, WIDE, Shape
+from shapes import BLOB, CHANGED, CRAFTED, INSERTS, LONG, MADE, MIX, SHUFFLED, TEN, WIDE, Shape
 
 
 class Kind(NamedTuple):
@@ -42,7 +42,7 @@ class Kind(NamedTuple):
 
 
 ALL = (MIX, INSERTS, SHUFFLED, TEN, WIDE, LONG, BLOB)
-PAIRS = (*ALL, CRAFTED)
+PAIRS = (*ALL, CHANGED, CRAFTED)
 APPLIED = (MIX, INSERTS, TEN, WIDE, LONG, BLOB)
 SCRIPTS = (MIX, INSERTS)
 LOOKED = (MIX, WIDE)

@@ -34,6 +34,8 @@ class Shape(NamedTuple):
     text: Union[str, bytes] = "hello"
     # A third of the entries are INSERTs, a third DELETEs and a third UPDATEs. Else all are INSERTs.
     is_mix: bool = True
+    # The second file has UPDATEs and DELETEs of half of the keys of the first, by turns.
+    is_changed: bool = False
     # The most entries that are applied: SQLite takes the square of the time to make more tables.
     most_applied: int = 1_000_000
     order: str = ""  # of the keys: in order, "shuffled" or "crafted"
@@ -41,11 +43,13 @@ class Shape(NamedTuple):
 
 MIX, TEN, WIDE, LONG = "one table", "tables of ten", "rows of a hundred", "texts of 1 kB"
 INSERTS, SHUFFLED, BLOB, CRAFTED = "INSERTs only", "shuffled keys", "one blob", "crafted keys"
+CHANGED = "INSERTs, then changes of them"
 
 SHAPES = (
     Shape(MIX),
     Shape(INSERTS, is_mix=False),
     Shape(SHUFFLED, order="shuffled"),
+    Shape(CHANGED, is_mix=False, is_changed=True, order="shuffled"),
     Shape(TEN, in_each=10, most_applied=100_000),
     Shape(WIDE, COUNTS[:3], columns=100),
     Shape(LONG, COUNTS[:3], text="a" * 999 + "b"),
@@ -79,7 +83,7 @@ def others(shape: Shape) -> tuple[Union[int, str], ...]:
 
 
 def entry_of(shape: Shape) -> Callable[[int, int], bytes]:
-    """Return what makes the entry of an operation and a key."""
+    """Return what makes an entry, by the number of its operation and its key."""
     row: bytes = stores.record((shape.text, *others(shape)))
     left_out = bytes(shape.columns - 2)
     unchanged: bytes = stores.field(shape.text) + left_out
@@ -87,7 +91,7 @@ def entry_of(shape: Shape) -> Callable[[int, int], bytes]:
 
     def entry(operation: int, key: int) -> bytes:
         number: bytes = stores.field(key)
-        which = operation % 3 if shape.is_mix else 0
+        which = operation % 3
         if which < 2:
             return (b"\x12\x00", b"\x09\x00")[which] + number + row
         return b"\x17\x00" + number + unchanged + changed
@@ -100,21 +104,26 @@ def first_file(shape: Shape, count: int) -> Iterator[bytes]:
     entry = entry_of(shape)
     for name, keys in tables(shape, count):
         yield stores.header(name, 1, *[0] * (shape.columns - 1))
-        yield from (entry(key, key) for key in keys)
+        yield from (entry(key if shape.is_mix else 0, key) for key in keys)
 
 
 def second_file(shape: Shape, count: int) -> Iterator[bytes]:
     """Yield the parts of a second one. In a mix half of its keys are in the first one too, in each
-    pair of operations. Else none is.
+    pair of operations. In changes all are. Else none is.
     """
     entry = entry_of(shape)
     for number, (name, keys) in enumerate(tables(shape, count)):
         if shape.in_each:
             keys = range(shape.in_each // 2, shape.in_each // 2 + shape.in_each)
+        elif shape.is_changed:
+            keys = keys_from(shape, 0, count // 2)
         else:
             keys = keys_from(shape, count // 2 if shape.is_mix else count, count)
         yield stores.header(name, 1, *[0] * (shape.columns - 1))
-        yield from (entry(number + key // 3, key) for key in keys)
+        if shape.is_mix:
+            yield from (entry(number + key // 3, key) for key in keys)
+        else:
+            yield from (entry(1 + key % 2 if shape.is_changed else 0, key) for key in keys)
 
 
 def rows(shape: Shape, keys: Iterable[int], is_before: bool) -> Iterator[int]:
