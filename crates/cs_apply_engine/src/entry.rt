@@ -153,8 +153,8 @@ fn apply_at_row<B: Rows, H: Fn(&Conflict) -> Choice>(
     }
 }
 
-/// Adds the row of an entry that has no conflict where no row has its key, and returns whether it does: nothing changes
-/// where a row has the key, nor for another entry.
+/// Adds the row of an entry that has no conflict where no row has its key, and returns whether it does. It leaves other
+/// entries to `apply_at_row`, and may leave any: then nothing changes.
 fn add_row<B: Rows>(
     alloc: Global,
     rows: &mut B,

@@ -27,7 +27,7 @@ use Rattle.cs_file_iterator.specs.declared.value.Side.{Side}
 use Rattle.cs_file_iterator.specs.declared.value.Side.TheVariants.{Old, New}
 use Rattle.cs_file_iterator.specs.Changes.{Shows, ShowsTable, TableChange}
 use Rattle.cs_file_iterator.specs.declared.value.ValueSpan.{ValueSpan}
-use Rattle.cs_file_iterator.specs.Values.{LieWithin, ShowsField, ShowsValue, ShowsValues, field_on, plain_span, value_at}
+use Rattle.cs_file_iterator.specs.Values.{KeepsOthers, LieWithin, ShowsField, ShowsValue, ShowsValues, field_on, plain_span, value_at}
 use Rattle.cs_file_iterator.specs.Steps.{BeginsRecord, HasRecord, record_on, span_at}
 use Rattle.cs_file_iterator.proofs.PartLemmas.{Stands-length, Stands-part}
 
@@ -188,9 +188,13 @@ field_on-none New (Update old new) column is = cc
 
 -- ---- the values of several columns
 
--- no value is shown yet
-pub shows_none : (file : List ℕ) (field : ℕ → Option OwnedField) (spans : List ValueSpan) → ShowsValues file 0 field spans spans
-shows_none file field spans = record { each = λ at none. absurd (omega arith); others = λ at le. refl; size = refl }
+-- without a change all are as they were
+pub keeps_same : (count : ℕ) (spans : List ValueSpan) → KeepsOthers count spans spans
+keeps_same count spans = record { size = refl; each = λ at le. refl }
+
+-- those behind more are among those behind fewer
+pub keeps_less : (few count : ℕ) (old new : List ValueSpan) → few ≤ count → KeepsOthers few old new → KeepsOthers count old new
+keeps_less few count old new le kept = record { size = kept.size; each = λ at behind. kept.each at (omega (arith, le, behind)) }
 
 -- the value that was put, and the others
 module _ (spans : List ValueSpan) (column : ℕ) (value : ValueSpan) (lt : column < length spans) where
@@ -209,31 +213,25 @@ module _ (spans : List ValueSpan) (column : ℕ) (value : ValueSpan) (lt : colum
         subst (P at) (sym (put_elsewhere at other)) (before at (omega (arith, other, below)))
   ]
 
-  pub shows_more : (file : List ℕ) (field : ℕ → Option OwnedField) (old : List ValueSpan) → ShowsValues file column field old spans → ShowsValue file value (field column)
-      → ShowsValues file (column + 1) field old (slice_set spans column value)
-  shows_more file field old shown here = record {
-    each = one_more (λ at v. ShowsValue file v (field at)) shown.each here;
-    others = λ at le. put_elsewhere at (λ same. absurd (omega (arith, same, le))) ∙ shown.others at (omega (arith, le));
-    size = length-set spans column value ∙ shown.size;
+  pub shows_more : (file : List ℕ) (field : ℕ → Option OwnedField) → ShowsValues file column field spans → ShowsValue file value (field column)
+      → ShowsValues file (column + 1) field (slice_set spans column value)
+  shows_more file field shown here = one_more (λ at v. ShowsValue file v (field at)) shown here
+
+  pub keeps_more : (old : List ValueSpan) → KeepsOthers column old spans → KeepsOthers (column + 1) old (slice_set spans column value)
+  keeps_more old kept = record {
+    size = length-set spans column value ∙ kept.size;
+    each = λ at le. put_elsewhere at (λ same. absurd (omega (arith, same, le))) ∙ kept.each at (omega (arith, le));
   }
 
   pub within_more : (file : List ℕ) → LieWithin file column spans → value.offset + value.length ≤ length file → LieWithin file (column + 1) (slice_set spans column value)
   within_more file before here = one_more (λ at v. v.offset + v.length ≤ length file) before here
 
 -- the fields of a record are what it says of its columns
-pub shows_record : (file : List ℕ) (count : ℕ) (side : Side) (change : Change) (fields : List OwnedField) (old new : List ValueSpan) → record_on side change ≡ Some fields
-    → ShowsValues file count (λ column. Some (get_or fields column Undefined)) old new → ShowsValues file count (field_on side change) old new
-shows_record file count side change fields old new is shown = record {
-  each = λ column lt. subst (ShowsValue file (value_at new column)) (sym (field_on-record side change column fields is)) (shown.each column lt);
-  others = shown.others;
-  size = shown.size;
-}
+pub shows_record : (file : List ℕ) (count : ℕ) (side : Side) (change : Change) (fields : List OwnedField) (spans : List ValueSpan) → record_on side change ≡ Some fields
+    → ShowsValues file count (λ column. Some (get_or fields column Undefined)) spans → ShowsValues file count (field_on side change) spans
+shows_record file count side change fields spans is shown = λ column lt. subst (ShowsValue file (value_at spans column)) (sym (field_on-record side change column fields is)) (shown column lt)
 
 -- and without a record it says nothing
-pub shows_nothing : (file : List ℕ) (count : ℕ) (side : Side) (change : Change) (old new : List ValueSpan) → record_on side change ≡ None
-    → ShowsValues file count (λ column. None) old new → ShowsValues file count (field_on side change) old new
-shows_nothing file count side change old new is shown = record {
-  each = λ column lt. subst (ShowsValue file (value_at new column)) (sym (field_on-none side change column is)) (shown.each column lt);
-  others = shown.others;
-  size = shown.size;
-}
+pub shows_nothing : (file : List ℕ) (count : ℕ) (side : Side) (change : Change) (spans : List ValueSpan) → record_on side change ≡ None
+    → ShowsValues file count (λ column. None) spans → ShowsValues file count (field_on side change) spans
+shows_nothing file count side change spans is shown = λ column lt. subst (ShowsValue file (value_at spans column)) (sym (field_on-none side change column is)) (shown column lt)

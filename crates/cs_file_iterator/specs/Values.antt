@@ -39,15 +39,19 @@ abbrev pub field_on : Side → Change → ℕ → Option OwnedField
 field_on Old change column = old_field change column
 field_on New change column = new_field change column
 
--- the value in a place of some
+-- the value at an index of some, and no value past their end
 abbrev pub value_at : List ValueSpan → ℕ → ValueSpan
 value_at spans at = slice_index_or spans at (plain_span (pos 0) (pos 0))
 
--- the first spans show what a change says of so many columns, and the others are as they were
-pub record ShowsValues (file : List ℕ) (count : ℕ) (field : ℕ → Option OwnedField) (old new : List ValueSpan) : Type 0 where
-  pub each : (column : ℕ) → column < count → ShowsValue file (value_at new column) (field column)
-  pub others : (at : ℕ) → count ≤ at → value_at new at ≡ value_at old at
+-- the first spans show what a change says of so many columns
+abbrev pub ShowsValues : List ℕ → ℕ → (ℕ → Option OwnedField) → List ValueSpan → Type 0
+ShowsValues file count field spans =
+    (column : ℕ) → column < count → ShowsValue file (value_at spans column) (field column)
+
+-- there are as many spans as before, and all behind the first ones are as they were
+pub record KeepsOthers (count : ℕ) (old new : List ValueSpan) : Type 0 where
   pub size : length new ≡ length old
+  pub each : (at : ℕ) → count ≤ at → value_at new at ≡ value_at old at
 
 -- the first spans lie in the file
 abbrev pub LieWithin : List ℕ → ℕ → List ValueSpan → Type 0

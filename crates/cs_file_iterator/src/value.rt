@@ -7,7 +7,7 @@ ghost use Rattle.cs_value.specs.Value.{IsField, IsRecord, field_of};
 ghost use Rattle.cs_wire_entries.specs.ReadFaults.{Stands};
 ghost use Rattle.cs_wire_entries.specs.Items.{new_record};
 ghost use Rattle.cs_file_iterator.specs.Changes.{Shows, TableChange};
-ghost use Rattle.cs_file_iterator.specs.Values.{IsAnswered, LieWithin, ShowsField, ShowsValue, ShowsValues, field_on};
+ghost use Rattle.cs_file_iterator.specs.Values.{IsAnswered, KeepsOthers, LieWithin, ShowsField, ShowsValue, ShowsValues, field_on};
 ghost use Rattle.cs_file_iterator.specs.Steps.{HasRecord, content_span, record_on, span_at};
 
 use crate::change::ChangeSpan;
@@ -86,14 +86,14 @@ pub fn change_value(
 
 /// Puts what a change of a file says of each column on one side into the front of the spans, in one pass over the
 /// change. Returns whether it does: nothing changes where there are fewer spans than columns. The fields are undefined
-/// if the change has no record on that side.
+/// if the change has no record on that side. Spans behind those of the columns are not changed.
 ///
 /// `change` is as [`next_change`](crate::next_change) returned it for the file. A call takes time in proportion to the
 /// bytes of the change and its columns, and allocates nothing.
 ///
 /// # Errors
 ///
-/// The fault at which reading stops. A changeset's file has none.
+/// The fault at which reading stops. The spans of the columns then mean nothing. A changeset's file has no fault.
 pub fn change_values(
     file: &[u8],
     change: &ChangeSpan,
@@ -102,7 +102,8 @@ pub fn change_values(
 ) -> Result<bool, ReadFault>
     ensures values { (shown : TableChange) → Shows file.now change.now shown
         → length shown.header.flags ≤ length spans.old → IsOkAnd result (λ filled. IsTrue filled
-        × ShowsValues file.now (length shown.header.flags) (field_on side shown.entry.change) spans.old spans.new) }
+        × ShowsValues file.now (length shown.header.flags) (field_on side shown.entry.change) spans.new) }
+    ensures others { KeepsOthers change.now.columns spans.old spans.new }
     ensures few { (result ≡ Ok false) ↔ (length spans.old < change.now.columns) }
     ensures same { result ≡ Ok false → spans.new ≡ spans.old }
     ensures within { result ≡ Ok true → LieWithin file.now change.now.columns spans.new }
@@ -130,8 +131,9 @@ fn read_values(
     requires start { start ≤ length file.now }
     requires room { count ≤ length spans.old }
     ensures values { (fields : List OwnedField) (rest : List ℕ) → IsRecord fields → count ≤ length fields
-        → drop start file.now ≡ record_bytes fields ++ rest → (result ≡ Ok tt) × ShowsValues file.now count
-        (λ column. Some (get_or fields column UndefinedField)) spans.old spans.new }
+        → drop start file.now ≡ record_bytes fields ++ rest → (result ≡ Ok tt)
+        × ShowsValues file.now count (λ column. Some (get_or fields column UndefinedField)) spans.new }
+    ensures others { KeepsOthers count spans.old spans.new }
     ensures within { OnOk result (LieWithin file.now count spans.new) }
 {
     let mut place = start;
@@ -146,7 +148,8 @@ fn read_values(
 /// Makes so many values at the front of the spans undefined.
 fn clear_values(count: usize, spans: &mut [ValueSpan])
     requires { count ≤ length spans.old }
-    ensures values { (file : List ℕ) → ShowsValues file count (λ _. None) spans.old spans.new }
+    ensures values { (file : List ℕ) → ShowsValues file count (λ _. None) spans.new }
+    ensures others { KeepsOthers count spans.old spans.new }
     ensures within { (file : List ℕ) → LieWithin file count spans.new }
 {
     for column in 0..count {

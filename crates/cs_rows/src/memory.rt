@@ -264,6 +264,7 @@ impl Rows for MemRows {
     fn add(&mut self, alloc: Global, table: &str, key: &Key, row: &Row) -> Result<bool, StoreError>
         requires { Fits self.old table.now key.now row.now }
         ensures added { IfOk result (λ added. Adds self.old table.now key.now row.now added self.new) }
+        ensures unchanged { OnErr result (self.new ≡ self.old) }
         ensures refused { IfErr result (λ e. e ≡ OutOfMemory) }
     {
         if self.row(table, key).is_some() {

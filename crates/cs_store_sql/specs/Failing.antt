@@ -107,10 +107,11 @@ CannotRead old new error = HasDiskFailed old new error ⊎ ((error ≡ SqliteFai
 
 -- ---- what calls say
 
--- A call that reads changes nothing, and fails as a read does where the table of records is declared.
+-- An accepted call that reads changes nothing.
 abbrev pub ChangesNothing : {X E : Type 0} → State → State → Result X E → Type 0
 ChangesNothing old new result = HasCleanDisk new → OnOk result (IsUnchanged old new)
 
+-- A refused call fails as a read does, where the table of records is declared.
 abbrev pub FailsAsRead : {X : Type 0} → State → State → Result X RecordsError → Type 0
 FailsAsRead old new result =
     HasCleanDisk new → (IsTrue old.is_open → DeclaresRecords old.now.schema) → IfErr result (IsFailure (CannotRead old new))
@@ -128,8 +129,8 @@ abbrev pub KeepsCrashInside : State → State → Type 0
 KeepsCrashInside old new =
     (HasCleanDisk old → HoldsRecords old.now) → (HasCleanDisk old → IsTrue old.in_transaction) → KeepsCrash old new
 
--- A statement writes this, or nothing, under a name and a key, inside a transaction on a database that holds records. If
--- it is accepted, the transaction goes on with its marks, and shows what the statement makes.
+-- A statement puts this value under a name and a key, or removes what is there, inside a transaction on a database that
+-- holds records. If it is accepted, the transaction goes on with its marks, and shows what the statement makes.
 pub record WritesRecord (old new : State) (statement : Statement) (tab key : List ℕ) (here : Option (List ℕ))
     (result : Result (Unit {0}) RecordsError) : Type 0 where
   pub set : HasCleanDisk new → HoldsRecords old.now → OnOk result (Sets old.now new.now tab key here)

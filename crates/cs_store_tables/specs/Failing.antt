@@ -27,8 +27,8 @@ use Rattle.cs_store_tables.specs.Store.{tables_in}
 abbrev pub IsCauseOf : (Error → Type 0) → Cause → Type 0
 IsCauseOf Fails cause = (error : Error) × (error ≢ SqliteFailure OutOfMemory) × Fails error × (cause ≡ cause_of error)
 
--- The statement is one that a store makes: a record is put as a new one only where none is there, and replaced or
--- removed by a number only where that is the number of its row.
+-- The statement is one that a store makes and the database accepts: a record is put as a new one only where none is
+-- there, and replaced or removed by a number only where that is the number of its row.
 abbrev pub IsApt : Database → Statement → Type 0
 IsApt db (puts true tab key value) = records_in db tab key ≡ None
 IsApt db (puts false tab key value) = Unit {0}
@@ -54,7 +54,7 @@ abbrev pub IsOutside : State → Cause → Type 0
 IsOutside s cause = (s.in_transaction ≡ false) × (cause ≡ Other)
 
 -- A row is not put, and a row is not removed: no transaction is open, or the statement fails that a store makes where
--- the row of the key is at this place.
+-- the row of the key is at some place, as far as is known.
 abbrev pub PutFails : State → State → List ℕ → List ℕ → List OwnedValue → Cause → Type 0
 PutFails old new name key row cause = IsOutside old cause
     ⊎ ((place : Place) × WriteFails old new (put_at place name key (row_bytes row)) cause)

@@ -1,6 +1,6 @@
 //! What is read and written through a store. The table that was looked up last is known: inside a transaction, where
-//! nobody else writes, its schema is not read again. So is the key that was looked up last, and where its row is: a row
-//! that is put or removed there is not looked for again.
+//! nobody else writes, its schema is not read again. So are, until the next write, the key that was looked up last and
+//! where its row is: a row that is put or removed there is not looked for again.
 ghost use Rattle.std.specs.Prelude.{◌≡◌, ◌⊎◌, ◌<◌, ◌^◌, true, IsTrue, IfOk, IfErr, OnOk, IfSome, None, Some, length, option_map};
 ghost use Rattle.std.specs.FinMap as map;
 ghost use Rattle.cs_value.specs.Table.{IsName};
@@ -30,7 +30,7 @@ use std::marker::Model;
 pub struct KnownTable {
     name: String,
     schema: Schema,
-    // The key that was looked up last.
+    // The key that was looked up last, if nothing was written since.
     sought: Option<Sought>,
 }
 

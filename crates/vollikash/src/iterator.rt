@@ -8,7 +8,7 @@ ghost use Rattle.cs_wire_entries.specs.ReadFaults.{HasEntry, Stands};
 ghost use Rattle.cs_files.specs.declared.fault.FileFault.TheVariants.{First};
 ghost use Rattle.cs_file_iterator.specs.Changes.{ChangesLeft, IsStep, LiesIn, Shows, TableChange};
 ghost use Rattle.cs_file_iterator.specs.Readable.{AreAll, IsUnreadable, ReadsOn, WereRead};
-ghost use Rattle.cs_file_iterator.specs.Values.{LieWithin, ShowsValue, ShowsValues};
+ghost use Rattle.cs_file_iterator.specs.Values.{KeepsOthers, LieWithin, ShowsValue, ShowsValues};
 ghost use Rattle.vollikash.specs.Answers.{no_fault, report_of};
 ghost use Rattle.vollikash.specs.Iterating.{IsStepCode, TellsFault, side_number};
 ghost use Rattle.cs_file_iterator.specs.declared.value.Side.{Side as SideData};
@@ -118,7 +118,8 @@ pub extern "C" fn vollikash_value(
 ///
 /// `change` and `side` are as for [`vollikash_value`]. It answers `OK`, or `NO_ROOM` if there are fewer `values` than
 /// columns, or `RANGE` if there is no such side; then all are unchanged. Or it answers the number of what is wrong with
-/// the file. It allocates nothing.
+/// the file, and the values of the columns mean nothing. Values behind those of the columns are not changed. It
+/// allocates nothing.
 #[unsafe(no_mangle)]
 pub extern "C" fn vollikash_values(
     file: &[u8],
@@ -127,8 +128,9 @@ pub extern "C" fn vollikash_values(
     values: &mut [ValueSpan],
 ) -> i32
     ensures values { (side_is : SideData) (shown : TableChange) → side ≡ side_number side_is → Shows file.now change.now shown
-        → length shown.header.flags ≤ length values.old → (result ≡ OK) × ShowsValues file.now
-        (length shown.header.flags) (field_on side_is shown.entry.change) values.old values.new }
+        → length shown.header.flags ≤ length values.old → (result ≡ OK)
+        × ShowsValues file.now (length shown.header.flags) (field_on side_is shown.entry.change) values.new }
+    ensures others { KeepsOthers change.now.columns values.old values.new }
     ensures few { (side_is : SideData) → side ≡ side_number side_is → length values.old < change.now.columns
         → (result ≡ NO_ROOM) × (values.new ≡ values.old) }
     ensures no_side { ((side_is : SideData) → side ≢ side_number side_is)

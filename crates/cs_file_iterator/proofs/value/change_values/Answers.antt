@@ -1,5 +1,5 @@
--- `value::change_values`: the clause `values`.
-use Rattle.std.proofs.Common.{◌≡◌, ℕ, None, Some, get_or, length, refl, subst, arith}
+-- `value::change_values`: the clauses `values` and `others`.
+use Rattle.std.proofs.Common.{ℕ, None, Some, get_or, length, refl, subst, arith}
 use Rattle.cs_value.specs.declared.value.OwnedField.TheVariants.{Undefined}
 use Rattle.cs_file_iterator.specs.Values.{ShowsValues}
 use Rattle.cs_file_iterator.proofs.ValueLemmas.{HasRecord-none, HasRecord-some, Shows-within, columns_are, shows_nothing, shows_record}
@@ -27,8 +27,8 @@ returns-in_ok-read_values-in-Some-clause-values c = λ shown shows room.
     let columns = columns_are file c.args.change.now shown.header shows.table in
     let read = c.in_ok-read_values-in-Some.ensures.values found.0 begins.rest begins.is_record (omega (arith, begins.width, columns)) begins.spelled in (
       refl,
-      shows_record file (length shown.header.flags) c.args.side shown.entry.change found.0 c.args.spans.now c.read_values.new.spans found.1
-          (subst (λ (count : ℕ). ShowsValues file count (λ column. Some (get_or found.0 column Undefined)) c.args.spans.now c.read_values.new.spans) columns read.1),
+      shows_record file (length shown.header.flags) c.args.side shown.entry.change found.0 c.read_values.new.spans found.1
+          (subst (λ (count : ℕ). ShowsValues file count (λ column. Some (get_or found.0 column Undefined)) c.read_values.new.spans) columns read.1),
     )
 
 pub returns-in-None-clause-values : goal.returns-in-None-clause-values
@@ -37,6 +37,6 @@ returns-in-None-clause-values c = λ shown shows room.
     let none = HasRecord-none file (length shown.header.flags) _ c.in_ok-record.field-0 (c.in_ok-record.ensures.record shown shows) c.in-None.is in
     let columns = columns_are file c.args.change.now shown.header shows.table in (
       refl,
-      shows_nothing file (length shown.header.flags) c.args.side shown.entry.change c.args.spans.now c.clear_values.new.spans none
-          (subst (λ (count : ℕ). ShowsValues file count (λ column. None) c.args.spans.now c.clear_values.new.spans) columns (c.clear_values.ensures.values file)),
+      shows_nothing file (length shown.header.flags) c.args.side shown.entry.change c.clear_values.new.spans none
+          (subst (λ (count : ℕ). ShowsValues file count (λ column. None) c.clear_values.new.spans) columns (c.clear_values.ensures.values file)),
     )
