@@ -100,8 +100,20 @@ static void add_hex(struct text *text, const char *before, const uint8_t *bytes,
     }
 }
 
-/* The values of a change on one side by one call, and after them one that is untouched. The caller frees them. */
-static struct vollikash_field *values_of(struct bytes file, const struct vollikash_change *change, int side)
+/* The values of a change on one side by one call, in memory that is not initialized. The caller frees them. */
+static struct vollikash_field *filled_values(struct bytes file, const struct vollikash_change *change, int side)
+{
+    struct vollikash_field *values = malloc(change->columns * sizeof *values);
+    require(values != NULL, "out of memory");
+    require(vollikash_values(file.at, file.count, change, side, values, change->columns) == VOLLIKASH_OK,
+            "a change has no values");
+    return values;
+}
+
+/* Require that the values of a change are not touched where there are too few or there is no such side, nor those after
+** them.
+*/
+static void require_untouched(struct bytes file, const struct vollikash_change *change, int side)
 {
     size_t columns = change->columns, size = (columns + 1) * sizeof(struct vollikash_field);
     struct vollikash_field *values = malloc(size), *before = malloc(size);
@@ -115,14 +127,15 @@ static struct vollikash_field *values_of(struct bytes file, const struct vollika
     require(vollikash_values(file.at, file.count, change, side, values, columns + 1) == VOLLIKASH_OK,
             "a change has no values");
     require(memcmp(&values[columns], before, sizeof *values) == 0, "a value after the last column was touched");
+    free(values);
     free(before);
-    return values;
 }
 
 /* The values of a change on one side, and a check that there is no further one. */
 static void add_side(struct text *text, struct bytes file, const struct vollikash_change *change, int side)
 {
-    struct vollikash_field value, before, *values = values_of(file, change, side);
+    struct vollikash_field value, before, *values = filled_values(file, change, side);
+    require_untouched(file, change, side);
     memset(&value, UNTOUCHED, sizeof value);
     before = value;
     require(vollikash_value(file.at, file.count, change, side, change->columns, &value) == VOLLIKASH_RANGE,

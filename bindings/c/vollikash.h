@@ -9,15 +9,16 @@
 **   * No pointer is NULL, not even with length 0. "" is fine there.
 **   * A pointer to bytes has as many bytes as its length, at most PTRDIFF_MAX.
 **     `written`, `fault`, `place`, `change` and `value` point to one object of their
-**     type. `lengths` has as many objects as `count` says. Each pointer is aligned for
-**     its type.
-**   * `out`, `written`, `fault`, `place`, `change` of vollikash_next and `value`
-**     overlap nothing else. Two files may be the same bytes.
+**     type. `lengths` and `values` have as many objects as `count` says, at most
+**     PTRDIFF_MAX bytes. Each pointer is aligned for its type.
+**   * `out`, `written`, `fault`, `place`, `change` of vollikash_next, `value` and
+**     `values` overlap nothing else. Two files may be the same bytes.
 **   * While a call runs, nothing else changes what it reads: the files, the names, the
 **     lengths and the change. Nothing else reads or changes what it writes to. This
 **     holds of other threads, signal handlers and processes that share the memory.
-**   * `out`, `written`, `fault` and `value` may be uninitialized: no call reads them. So
-**     may the `change` of vollikash_next while `place` is 0. All else is initialized.
+**   * `out`, `written`, `fault`, `value` and `values` may be uninitialized: no call reads
+**     them. So may the `change` of vollikash_next while `place` is 0. All else is
+**     initialized.
 **   * No call is made in a signal handler, or in the child of a fork of a process
 **     with threads. The stack has 128 KiB left.
 **   * malloc, realloc and free belong to one allocator, whose blocks are aligned to
@@ -26,9 +27,9 @@
 ** The caller owns every buffer and every struct. A call allocates at most some twenty
 ** times the bytes of its files and three kilobytes, which bindings/c/memory.c measures,
 ** and frees all of it before it returns. vollikash_next, vollikash_value,
-** vollikash_values and vollikash_message allocate nothing. A text is made in memory first, and grows with the
-** length of a table's name times the number of its changes. A call keeps no state, so
-** several threads can call at once.
+** vollikash_values and vollikash_message allocate nothing. A text is made in memory
+** first, and grows with the length of a table's name times the number of its changes.
+** A call keeps no state, so several threads can call at once.
 */
 #ifndef VOLLIKASH_H
 #define VOLLIKASH_H
@@ -82,7 +83,7 @@ enum vollikash_code {
 
     VOLLIKASH_SCHEMA = 43,    /* a table has other columns or another key than in an earlier file */
     VOLLIKASH_NO_MEMORY = 60, /* memory ran out */
-    VOLLIKASH_NO_ROOM = 80,   /* `out` is too small; `written` has the length that is needed */
+    VOLLIKASH_NO_ROOM = 80,   /* `out` is too small, and `written` has the length that is needed; or `values` is */
     VOLLIKASH_DONE = 81,      /* no change is left */
     VOLLIKASH_RANGE = 82      /* a column, a side, a length or a number is out of range */
 };
@@ -227,10 +228,13 @@ int vollikash_value(const uint8_t *file, size_t length, const struct vollikash_c
                     size_t column, struct vollikash_field *value) VOLLIKASH_NONNULL;
 
 /*
-** Fills in what a change has in each column on one side, in the order of the columns, in one
-** pass over the change. `values` has room for `count` of them: change->columns at least.
-** Otherwise it is as vollikash_value. Returns OK, or NO_ROOM if there are more columns, or
-** RANGE if there is no such side; then `values` is unchanged.
+** Fills in what a change has in each column on one side, in the order of the columns, in
+** one pass over the change: the first change->columns of `values`. `change`, `side` and
+** each value are as for vollikash_value. Returns OK, or NO_ROOM if `count` is less than
+** change->columns, or RANGE if there is no such side; then `values` is unchanged. For a
+** `change` that vollikash_next did not return for these bytes it may also return 1, 4 or
+** 12 to 14, and values that mean nothing. Values behind those of the columns are always
+** unchanged. A call takes time in proportion to the bytes of the change.
 */
 int vollikash_values(const uint8_t *file, size_t length, const struct vollikash_change *change, int side,
                      struct vollikash_field *values, size_t count) VOLLIKASH_NONNULL;
