@@ -15,6 +15,7 @@ from typing import List, Optional, Set
 from support.program import TOP
 
 CRATE = TOP / "bindings/rust"
+HEADER = TOP / "bindings/c/vollikash.h"
 BUILT = TOP / "bindings/c/out"
 
 # How many seconds a command of Cargo may take.
@@ -36,6 +37,25 @@ def files_of_crate() -> Set[str]:
     """Return the files of the crate, without what Cargo makes."""
     files = {path.relative_to(CRATE) for path in CRATE.rglob("*") if path.is_file()}
     return {file.as_posix() for file in files if file.parts[0] != "target"} - OF_CARGO
+
+
+class Header(unittest.TestCase):
+    """The crate has what `vollikash.h` has."""
+
+    def setUp(self) -> None:
+        self.header = HEADER.read_text()
+
+    def test_calls(self) -> None:
+        declared = re.findall(r"\b(?:fn|=) (vollikash_\w+)\(", (CRATE / "src/ffi.rs").read_text())
+        self.assertEqual(sorted(declared), sorted(re.findall(r"^int (vollikash_\w+)\(", self.header, re.M)))
+
+    def test_codes(self) -> None:
+        """The errors have the numbers and names of the header, except those that no call of the crate returns."""
+        codes = re.findall(r'^    (\d+) (\w+) "', (CRATE / "src/error.rs").read_text(), re.M)
+        named = re.findall(r"^    VOLLIKASH_(\w+) = (\d+), +/\*", self.header, re.M)
+        titles = [(number, "".join(word.capitalize() for word in name.split("_"))) for name, number in named]
+        self.assertEqual(codes, [it for it in titles if it[1] not in ("NoRoom", "Done", "Range")])
+        self.assertEqual(len(codes), 20)
 
 
 @unittest.skipUnless(cargo(), "no cargo")

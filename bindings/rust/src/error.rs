@@ -4,78 +4,43 @@ use std::fmt;
 
 use crate::ffi;
 
-/// The number of an error, as in `vollikash.h`.
-#[derive(Clone, Copy, Debug, PartialEq, Eq, Hash)]
-#[non_exhaustive]
-#[repr(i32)]
-pub enum Code {
-    /// The file ends inside a part.
-    Truncated = 1,
-    /// The file does not begin with a table.
-    NotTable = 2,
-    /// The file is a patchset.
-    Patchset = 3,
-    /// A count is not a varint in its shortest form.
-    BadVarint = 4,
-    /// A table has no column, or more than 32767.
-    ColumnCount = 5,
-    /// A table has no key column.
-    NoKey = 6,
-    /// A table's name is empty or not UTF-8.
-    BadName = 7,
-    /// A table is in the file twice.
-    DuplicateTable = 8,
-    /// A table has no change.
-    EmptyGroup = 9,
-    /// A change has no known operation.
-    BadOp = 10,
-    /// An indirect flag is neither 0 nor 1.
-    BadFlag = 11,
-    /// A field has no known type.
-    BadType = 12,
-    /// A field is a floating-point value.
-    RealValue = 13,
-    /// A text is not UTF-8.
-    BadText = 14,
-    /// A field that must be defined is not.
-    UndefinedField = 15,
-    /// An update has a field only before or only after.
-    Unpaired = 16,
-    /// A key column is NULL.
-    NullKey = 17,
-    /// A key is in a table twice.
-    DuplicateKey = 18,
-    /// A table has other columns or another key than in an earlier file.
-    Schema = 43,
-    /// Memory ran out.
-    NoMemory = 60,
+macro_rules! codes {
+    ($($number:literal $name:ident $doc:literal,)*) => {
+        /// The number of an error, as in `vollikash.h`.
+        #[derive(Clone, Copy, Debug, PartialEq, Eq, Hash)]
+        #[non_exhaustive]
+        #[repr(i32)]
+        pub enum Code {
+            $(#[doc = $doc] $name = $number,)*
+        }
+
+        /// Each code.
+        const CODES: &[Code] = &[$(Code::$name,)*];
+    };
 }
 
-use Code::*;
-
-/// Each code.
-const CODES: [Code; 20] = [
-    Truncated,
-    NotTable,
-    Patchset,
-    BadVarint,
-    ColumnCount,
-    NoKey,
-    BadName,
-    DuplicateTable,
-    EmptyGroup,
-    BadOp,
-    BadFlag,
-    BadType,
-    RealValue,
-    BadText,
-    UndefinedField,
-    Unpaired,
-    NullKey,
-    DuplicateKey,
-    Schema,
-    NoMemory,
-];
+codes! {
+    1 Truncated "The file ends inside a part.",
+    2 NotTable "The file does not begin with a table.",
+    3 Patchset "The file is a patchset.",
+    4 BadVarint "A count is not a varint in its shortest form.",
+    5 ColumnCount "A table has no column, or more than 32767.",
+    6 NoKey "A table has no key column.",
+    7 BadName "A table's name is empty or not UTF-8.",
+    8 DuplicateTable "A table is in the file twice.",
+    9 EmptyGroup "A table has no change.",
+    10 BadOp "A change has no known operation.",
+    11 BadFlag "An indirect flag is neither 0 nor 1.",
+    12 BadType "A field has no known type.",
+    13 RealValue "A field is a floating-point value.",
+    14 BadText "A text is not UTF-8.",
+    15 UndefinedField "A field that must be defined is not.",
+    16 Unpaired "An update has a field only before or only after.",
+    17 NullKey "A key column is NULL.",
+    18 DuplicateKey "A key is in a table twice.",
+    43 Schema "A table has other columns or another key than in an earlier file.",
+    60 NoMemory "Memory ran out.",
+}
 
 impl Code {
     /// Returns the number.
@@ -109,8 +74,8 @@ impl Error {
     ///
     /// If the report has a number that the header does not name as an error of the call.
     pub(crate) fn of(fault: ffi::Fault) -> Self {
-        let code = CODES
-            .into_iter()
+        let code = *CODES
+            .iter()
             .find(|code| code.number() == fault.code)
             .unwrap_or_else(|| panic!("the library returned the number {}", fault.code));
         let file = usize::try_from(fault.file).expect("the number of a file is not negative");
@@ -121,7 +86,7 @@ impl Error {
     /// Returns the error of an allocation that failed.
     pub(crate) fn no_memory() -> Self {
         Self {
-            code: NoMemory,
+            code: Code::NoMemory,
             file: 0,
             place: 0,
         }
@@ -144,14 +109,14 @@ impl Error {
     /// [`Code::NoMemory`].
     #[must_use]
     pub fn offset(&self) -> Option<usize> {
-        (self.code.number() <= DuplicateKey.number()).then(|| self.place)
+        (self.code.number() <= Code::DuplicateKey.number()).then(|| self.place)
     }
 
     /// Returns the zero-based index, in the file, of the table that differs. Only [`Code::Schema`]
     /// has one.
     #[must_use]
     pub fn table_index(&self) -> Option<usize> {
-        (self.code == Schema).then(|| self.place)
+        (self.code == Code::Schema).then(|| self.place)
     }
 }
 

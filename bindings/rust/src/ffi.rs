@@ -2,9 +2,10 @@
 //!
 //! What the header asks of each call holds by the types: a slice or a reference is never NULL, is
 //! aligned, has at most `isize::MAX` bytes and is changed by nobody else, and a `&mut` overlaps
-//! nothing else. All memory is initialized. A `SAFETY` comment names what else a call asks.
+//! nothing else. All memory is initialized. A `SAFETY` comment names what else a call asks. A `char`
+//! of the header is a `u8` here.
 
-use std::os::raw::{c_char, c_int};
+use std::os::raw::c_int;
 
 const OK: c_int = 0;
 const NO_ROOM: c_int = 80;
@@ -64,13 +65,9 @@ pub(crate) struct Field {
     pub(crate) length: usize,
 }
 
-/// A call that makes bytes from one file.
-type FromFile =
-    unsafe extern "C" fn(*const u8, usize, *mut u8, usize, *mut usize, *mut Fault) -> c_int;
-
 extern "C" {
     fn vollikash_version() -> c_int;
-    fn vollikash_message(code: c_int, out: *mut c_char, room: usize, written: *mut usize) -> c_int;
+    fn vollikash_message(code: c_int, out: *mut u8, room: usize, written: *mut usize) -> c_int;
     fn vollikash_check(file: *const u8, length: usize, fault: *mut Fault) -> c_int;
     fn vollikash_next(
         file: *const u8,
@@ -95,68 +92,6 @@ extern "C" {
         values: *mut Field,
         count: usize,
     ) -> c_int;
-    fn vollikash_invert(
-        file: *const u8,
-        length: usize,
-        out: *mut u8,
-        room: usize,
-        written: *mut usize,
-        fault: *mut Fault,
-    ) -> c_int;
-    fn vollikash_number_keys(
-        file: *const u8,
-        length: usize,
-        out: *mut u8,
-        room: usize,
-        written: *mut usize,
-        fault: *mut Fault,
-    ) -> c_int;
-    fn vollikash_concat(
-        first: *const u8,
-        first_length: usize,
-        second: *const u8,
-        second_length: usize,
-        out: *mut u8,
-        room: usize,
-        written: *mut usize,
-        fault: *mut Fault,
-    ) -> c_int;
-    fn vollikash_concat_many(
-        files: *const u8,
-        files_length: usize,
-        lengths: *const usize,
-        count: usize,
-        out: *mut u8,
-        room: usize,
-        written: *mut usize,
-        fault: *mut Fault,
-    ) -> c_int;
-    fn vollikash_select(
-        file: *const u8,
-        length: usize,
-        names: *const c_char,
-        names_length: usize,
-        out: *mut u8,
-        room: usize,
-        written: *mut usize,
-        fault: *mut Fault,
-    ) -> c_int;
-    fn vollikash_dump(
-        file: *const u8,
-        length: usize,
-        out: *mut u8,
-        room: usize,
-        written: *mut usize,
-        fault: *mut Fault,
-    ) -> c_int;
-    fn vollikash_sql(
-        file: *const u8,
-        length: usize,
-        out: *mut u8,
-        room: usize,
-        written: *mut usize,
-        fault: *mut Fault,
-    ) -> c_int;
 }
 
 /// Returns the version of the library.
@@ -170,8 +105,7 @@ pub(crate) fn message(code: c_int) -> String {
     let mut out = [0_u8; MESSAGE_ROOM];
     let mut written = 0;
     // SAFETY: `out` has as many bytes as its length says.
-    let status =
-        unsafe { vollikash_message(code, out.as_mut_ptr().cast(), out.len(), &mut written) };
+    let status = unsafe { vollikash_message(code, out.as_mut_ptr(), out.len(), &mut written) };
     assert_eq!(status, OK, "the library has no sentence for {code}");
     let sentence = out[..written]
         .strip_suffix(&[0])
@@ -199,103 +133,43 @@ pub(crate) enum Made {
     Refused(Fault),
 }
 
-/// Returns what a call reports that takes `written` and `fault`.
-fn made(call: impl FnOnce(&mut usize, &mut Fault) -> c_int) -> Made {
-    let mut written = 0;
-    let mut fault = Fault::default();
-    match call(&mut written, &mut fault) {
-        OK => Made::Bytes(written),
-        NO_ROOM => Made::NoRoom(written),
-        _ => Made::Refused(fault),
-    }
-}
-
-/// Makes bytes from one file.
-///
-/// # Safety
-///
-/// `call` is one of the header.
-unsafe fn from_file(call: FromFile, file: &[u8], out: &mut [u8]) -> Made {
-    made(|written, fault| {
-        let (room, out) = (out.len(), out.as_mut_ptr());
-        // SAFETY: `file` and `out` have as many bytes as their lengths say.
-        unsafe { call(file.as_ptr(), file.len(), out, room, written, fault) }
-    })
-}
-
-pub(crate) fn invert(file: &[u8], out: &mut [u8]) -> Made {
-    // SAFETY: the call is one of the header.
-    unsafe { from_file(vollikash_invert, file, out) }
-}
-
-pub(crate) fn number_keys(file: &[u8], out: &mut [u8]) -> Made {
-    // SAFETY: the call is one of the header.
-    unsafe { from_file(vollikash_number_keys, file, out) }
-}
-
-pub(crate) fn dump(file: &[u8], out: &mut [u8]) -> Made {
-    // SAFETY: the call is one of the header.
-    unsafe { from_file(vollikash_dump, file, out) }
-}
-
-pub(crate) fn sql(file: &[u8], out: &mut [u8]) -> Made {
-    // SAFETY: the call is one of the header.
-    unsafe { from_file(vollikash_sql, file, out) }
-}
-
-pub(crate) fn concat(first: &[u8], second: &[u8], out: &mut [u8]) -> Made {
-    let (one, two) = (first.as_ptr(), second.as_ptr());
-    made(|written, fault| {
-        let (room, out) = (out.len(), out.as_mut_ptr());
-        // SAFETY: both files and `out` have as many bytes as their lengths say. The files may be
-        // the same bytes.
-        unsafe {
-            vollikash_concat(
-                one,
-                first.len(),
-                two,
-                second.len(),
-                out,
-                room,
-                written,
-                fault,
-            )
+/// Declares the calls that make bytes from slices, and makes them safe.
+macro_rules! makes {
+    ($($name:ident = $call:ident($($slice:ident: $item:ty),+);)+) => {
+        extern "C" {
+            $(fn $call(
+                $($slice: *const $item, _: usize,)+
+                out: *mut u8,
+                room: usize,
+                written: *mut usize,
+                fault: *mut Fault,
+            ) -> c_int;)+
         }
-    })
+
+        $(pub(crate) fn $name($($slice: &[$item],)+ out: &mut [u8]) -> Made {
+            let (room, out) = (out.len(), out.as_mut_ptr());
+            let (mut written, mut fault) = (0, Fault::default());
+            // SAFETY: each slice has as many items as its length says, and `out` as many bytes.
+            let code = unsafe {
+                $call($($slice.as_ptr(), $slice.len(),)+ out, room, &mut written, &mut fault)
+            };
+            match code {
+                OK => Made::Bytes(written),
+                NO_ROOM => Made::NoRoom(written),
+                _ => Made::Refused(fault),
+            }
+        })+
+    };
 }
 
-/// Concatenates the files in a buffer, which have these lengths.
-pub(crate) fn concat_many(files: &[u8], lengths: &[usize], out: &mut [u8]) -> Made {
-    let (all, lengths, count) = (files.as_ptr(), lengths.as_ptr(), lengths.len());
-    made(|written, fault| {
-        let (room, out) = (out.len(), out.as_mut_ptr());
-        // SAFETY: `files` and `out` have as many bytes as their lengths say, and `lengths` has
-        // `count` numbers. The call itself checks these against `files`.
-        unsafe {
-            vollikash_concat_many(all, files.len(), lengths, count, out, room, written, fault)
-        }
-    })
-}
-
-/// Selects the tables whose names are in a text, each with a zero byte after it.
-pub(crate) fn select(file: &[u8], names: &str, out: &mut [u8]) -> Made {
-    let (at, names, names_length) = (file.as_ptr(), names.as_ptr().cast(), names.len());
-    made(|written, fault| {
-        let (room, out) = (out.len(), out.as_mut_ptr());
-        // SAFETY: `file`, `names` and `out` have as many bytes as their lengths say.
-        unsafe {
-            vollikash_select(
-                at,
-                file.len(),
-                names,
-                names_length,
-                out,
-                room,
-                written,
-                fault,
-            )
-        }
-    })
+makes! {
+    invert = vollikash_invert(file: u8);
+    number_keys = vollikash_number_keys(file: u8);
+    dump = vollikash_dump(file: u8);
+    sql = vollikash_sql(file: u8);
+    concat = vollikash_concat(first: u8, second: u8);
+    concat_many = vollikash_concat_many(files: u8, lengths: usize);
+    select = vollikash_select(file: u8, names: u8);
 }
 
 /// A place in a file, from which the next change is read.
@@ -433,23 +307,6 @@ mod tests {
         ));
         facts.extend(layout!("vollikash_field", Field: kind, integer, offset, length));
         facts.push(format!("VOLLIKASH_MESSAGE_ROOM == {MESSAGE_ROOM}"));
-        let numbers = [
-            ("OK", OK),
-            ("NO_ROOM", NO_ROOM),
-            ("DONE", DONE),
-            ("RANGE", RANGE),
-            ("INSERT", INSERT),
-            ("DELETE", DELETE),
-            ("UPDATE", UPDATE),
-            ("UNDEFINED", UNDEFINED),
-            ("INTEGER", INTEGER),
-            ("TEXT", TEXT),
-            ("BLOB", BLOB),
-            ("NULL", NULL),
-            ("OLD", Side::Old as c_int),
-            ("NEW", Side::New as c_int),
-        ];
-        facts.extend(numbers.map(|(name, number)| format!("VOLLIKASH_{name} == {number}")));
         facts
     }
 

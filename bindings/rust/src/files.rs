@@ -103,7 +103,7 @@ pub fn select(
             names.push('\0');
         }
     }
-    make(file.len(), |out| ffi::select(file, &names, out))
+    make(file.len(), |out| ffi::select(file, names.as_bytes(), out))
 }
 
 /// Returns a line for each table and each change.
@@ -159,4 +159,18 @@ fn zeroed(room: usize) -> Result<Vec<u8>, Error> {
         .map_err(|_| Error::no_memory())?;
     out.resize(room, 0);
     Ok(out)
+}
+
+#[cfg(test)]
+mod tests {
+    use super::*;
+    use crate::Code;
+
+    #[test]
+    fn buffer_that_no_memory_has() {
+        let error = zeroed(usize::MAX).unwrap_err();
+        assert_eq!(error.code(), Code::NoMemory);
+        assert_eq!((error.which_file(), error.offset()), (None, None));
+        assert_eq!(error.to_string(), "out of memory");
+    }
 }

@@ -21,7 +21,8 @@
 //! # }
 //! ```
 //!
-//! No call keeps state: several threads can call at once. A call needs 128 KiB of stack.
+//! No call keeps state: several threads can call at once. A call needs 128 KiB of stack. Make none in
+//! a signal handler, or in the child of a fork of a process with threads.
 #![deny(missing_docs)]
 #![deny(unsafe_code)]
 #![warn(unsafe_op_in_unsafe_fn)]

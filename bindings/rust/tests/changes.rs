@@ -57,23 +57,18 @@ fn file_of_three_tables() -> Result<(), Error> {
         ("z\u{e9}", true, &[1]),
     ];
     assert_eq!(heads, wanted);
-    assert_eq!(
-        all_of(THREE_TABLES)?,
-        [
-            (
-                Operation::Insert,
-                vec![None, None],
-                vec![integer(1), text("x")]
-            ),
-            (Operation::Delete, vec![integer(2), NULL], vec![None, None]),
-            (
-                Operation::Update,
-                vec![text("k"), blob(b"\x00\xff"), integer(-2)],
-                vec![None, None, NULL]
-            ),
-            (Operation::Insert, vec![None], vec![text("")]),
-        ]
-    );
+    let update = vec![text("k"), blob(b"\x00\xff"), integer(-2)];
+    let wanted = [
+        (
+            Operation::Insert,
+            vec![None; 2],
+            vec![integer(1), text("x")],
+        ),
+        (Operation::Delete, vec![integer(2), NULL], vec![None; 2]),
+        (Operation::Update, update, vec![None, None, NULL]),
+        (Operation::Insert, vec![None], vec![text("")]),
+    ];
+    assert_eq!(all_of(THREE_TABLES)?, wanted);
     Ok(())
 }
 
@@ -89,10 +84,8 @@ fn values_of_each_kind() -> Result<(), Error> {
     ];
     for row in &rows {
         let file = [header("t", &[1, 0]), b"\x12\x00".to_vec(), record(row)].concat();
-        assert_eq!(
-            all_of(&file)?,
-            [(Operation::Insert, vec![None, None], row.clone())]
-        );
+        let (_, old, new) = &all_of(&file)?[0];
+        assert_eq!((old, new), (&vec![None, None], row));
     }
     Ok(())
 }
@@ -135,10 +128,8 @@ fn iteration_ends_after_an_error() {
     let mut iterator = changes(&file);
     assert!(iterator.next().unwrap().is_ok());
     let error = iterator.next().unwrap().unwrap_err();
-    assert_eq!(
-        (error.code(), error.offset()),
-        (Code::BadOp, Some(INSERT.len()))
-    );
+    assert_eq!(error.code(), Code::BadOp);
+    assert_eq!(error.offset(), Some(INSERT.len()));
     assert!(iterator.next().is_none());
     assert!(iterator.next().is_none());
 }
@@ -153,11 +144,7 @@ fn iterators_and_changes_are_plain_values() {
     assert_eq!(iterator.clone().count(), 3);
     assert_eq!(iterator.count(), 3);
     let shown = format!("{:?}", changes(INSERT).next().unwrap().unwrap());
-    assert!(
-        shown.contains(r#"table: "t", operation: Insert"#),
-        "{}",
-        shown
-    );
+    assert!(shown.contains(r#"table: "t", operation: Insert"#));
 }
 
 /// Reads all of a file, and asserts that the iterator and `check` agree as far as they have to.

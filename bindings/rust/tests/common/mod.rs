@@ -36,14 +36,8 @@ fn field(value: Option<Value<'_>>) -> Vec<u8> {
 
 /// Returns the header of a table.
 pub fn header(name: &str, flags: &[u8]) -> Vec<u8> {
-    [
-        b"T",
-        &varint(flags.len())[..],
-        flags,
-        name.as_bytes(),
-        b"\0",
-    ]
-    .concat()
+    let count = varint(flags.len());
+    [b"T", &count[..], flags, name.as_bytes(), b"\0"].concat()
 }
 
 /// Returns the shortest varint of a number with at most 14 bits.
@@ -59,21 +53,9 @@ fn varint(number: usize) -> Vec<u8> {
 pub fn damaged(file: &[u8]) -> impl Iterator<Item = Vec<u8>> + '_ {
     (0..file.len()).flat_map(move |place| {
         let byte = file[place];
-        let others = [
-            0,
-            1,
-            2,
-            5,
-            6,
-            b'P',
-            b'T',
-            0x7f,
-            0x80,
-            0xff,
-            byte ^ 1,
-            byte ^ 0x80,
-        ];
-        others.into_iter().map(move |other| {
+        let others = *b"\x00\x01\x02\x05\x06PT\x7f\x80\xff";
+        let others = others.into_iter().chain([byte ^ 1, byte ^ 0x80]);
+        others.map(move |other| {
             let mut changed = file.to_vec();
             changed[place] = other;
             changed
