@@ -149,7 +149,8 @@ macro_rules! makes {
         $(pub(crate) fn $name($($slice: &[$item],)+ out: &mut [u8]) -> Made {
             let (room, out) = (out.len(), out.as_mut_ptr());
             let (mut written, mut fault) = (0, Fault::default());
-            // SAFETY: each slice has as many items as its length says, and `out` as many bytes.
+            // SAFETY: each slice has as many items as its length says, and `out` as many bytes. The
+            // slices may overlap each other.
             let code = unsafe {
                 $call($($slice.as_ptr(), $slice.len(),)+ out, room, &mut written, &mut fault)
             };
