@@ -1,5 +1,6 @@
 #!/usr/bin/env python3
-"""Makes a release of what is built: an archive with the programs and the C library, and a wheel.
+"""Makes a release of what is built: an archive with the programs, the C library and the Rust crate,
+and a wheel.
 
 usage: release/dist.py [FOLDER]
 
