@@ -1,5 +1,6 @@
 #!/usr/bin/env python3
-"""Makes a release of what is built: an archive with the programs and the C library, and a wheel.
+"""Makes a release of what is built: an archive with the programs, the C library and the Rust crate,
+and a wheel.
 
 usage: release/dist.py [FOLDER]
 
@@ -45,9 +46,12 @@ INSTALLED = {
     "share/zsh/site-functions": "bindings/python/completions/_*",
 }
 
-# What has the same name in the archive as in the repository, tests aside.
-DOCUMENTS = ("CHANGELOG.md", "CONTRIBUTING.md", "README.md", "docs/*.md", "docs/*.png", "examples/**/*.*")
-KINDS = {".md", ".py", ".c", ".cs", ".png"}
+# What has the same name in the archive as in the repository, tests in Python aside.
+DOCUMENTS = (
+    "CHANGELOG.md", "CONTRIBUTING.md", "README.md", "docs/*.md", "docs/*.png", "examples/**/*.*", "bindings/rust/*.*",
+    "bindings/rust/examples/*.rs", "bindings/rust/src/*.rs", "bindings/rust/tests/**/*.rs",
+)
+KINDS = {".md", ".py", ".c", ".cs", ".png", ".rs", ".toml"}
 
 # Exits with 0 if a Python can build the wheel.
 HAS_SETUPTOOLS = """

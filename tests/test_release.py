@@ -29,6 +29,7 @@ import glibc  # noqa: E402
 
 README = TOP / "README.md"
 PACKAGE = TOP / "bindings/python/vollikash"
+CRATE = TOP / "bindings/rust"
 PYTHON = dist.python_with_setuptools()
 IS_BUILT = all(path.exists() for path in dist.BUILDERS)
 HAS_COMMAND = (PACKAGE / "__main__.py").exists()
@@ -51,6 +52,8 @@ INSTALLED = {
 DOCUMENTS = {
     "CHANGELOG.md", "CONTRIBUTING.md", "README.md", "docs/C.md", "docs/PYTHON.md", "examples/key-change.cs",
     "examples/inspect/main.c", "examples/notes/notes.py", "examples/notes/terminal.py", "examples/sync/sync.py",
+    *(str(path.relative_to(TOP)) for path in CRATE.glob("**/*.rs") if "target" not in path.parts),
+    "bindings/rust/Cargo.toml", "bindings/rust/README.md",
 }
 # What it also has, where the repository has it.
 OF_COMMAND = {
@@ -148,12 +151,13 @@ class Versions(unittest.TestCase):
     def test_files(self):
         self.assertRegex(dist.VERSION, r"^\d+\.\d+\.\d+$")
         self.expect(r'^__version__ = "(.*)"$', PACKAGE / "__init__.py")
+        self.expect(r'^version = "(.*)"$', CRATE / "Cargo.toml")
         self.expect(r'^\.TH .*"Vollikash (\S+)"', *TOP.glob("man/*.1"))
         self.expect(r"^## (\d\S+)$", TOP / "CHANGELOG.md")
 
     def test_documents(self):
         """The names of the release's files in the documents have it."""
-        for document in (README, *TOP.glob("docs/*.md")):
+        for document in (README, CRATE / "README.md", *TOP.glob("docs/*.md")):
             named = set(re.findall(r"\bvollikash-(\d[\d.]*\d)-", document.read_text()))
             with self.subTest(document.name):
                 self.assertLessEqual(named, {dist.VERSION})
@@ -187,7 +191,8 @@ class Archive(unittest.TestCase):
         names = [member.name for member in members]
         self.assertEqual(names, sorted(names))
         names = {name.replace(f"{dist.NAME}/", "", 1) for name in names}
-        documents = {name for name in names if name.startswith(("docs/", "examples/")) or name in DOCUMENTS}
+        folders = ("docs/", "examples/", "bindings/rust/")
+        documents = {name for name in names if name.startswith(folders) or name in DOCUMENTS}
         self.assertEqual(names, INSTALLED | COMMAND_FILES | documents)
         self.assertGreater(documents, DOCUMENTS)
 
