@@ -127,7 +127,7 @@ pub fn sql(file: &[u8]) -> Result<String, Error> {
 
 /// Returns the text that a call makes of a file. Most texts have room in the first buffer.
 fn make_text(file: &[u8], call: fn(&[u8], &mut [u8]) -> Made) -> Result<String, Error> {
-    let room = file.len().saturating_mul(8).saturating_add(256);
+    let room = file.len().saturating_mul(4).saturating_add(256);
     let mut text = make(room, |out| call(file, out))?;
     text.shrink_to_fit();
     Ok(String::from_utf8(text).expect("the library makes UTF-8"))
