@@ -3,7 +3,8 @@
 **
 **     check HEX | invert HEX | number_keys HEX | concat HEX HEX | dump HEX | sql HEX      where "-" stands for no bytes
 **     select HEX NAMES | concat_many HEX LENGTHS      NAMES in hexadecimal digits, LENGTHS too, four digits for each
-**     changes HEX               each change and each of its values, by vollikash_next, vollikash_value and vollikash_values
+**     changes HEX               each change and each of its values, by vollikash_next, vollikash_value and
+**                               vollikash_values
 **     ok HEX                    the bytes, or the text, that were made
 **     error CODE FILE PLACE     the report of a refusal
 **
@@ -122,7 +123,8 @@ static void require_untouched(struct bytes file, const struct vollikash_change *
     memset(before, UNTOUCHED, size);
     require(vollikash_values(file.at, file.count, change, side, values, columns - 1) == VOLLIKASH_NO_ROOM,
             "the values have room where there is none");
-    require(vollikash_values(file.at, file.count, change, 2, values, columns) == VOLLIKASH_RANGE, "there is a third side");
+    require(vollikash_values(file.at, file.count, change, 2, values, columns) == VOLLIKASH_RANGE,
+            "there is a third side");
     require(memcmp(values, before, size) == 0, "a value was touched");
     require(vollikash_values(file.at, file.count, change, side, values, columns + 1) == VOLLIKASH_OK,
             "a change has no values");

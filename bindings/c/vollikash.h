@@ -83,7 +83,7 @@ enum vollikash_code {
 
     VOLLIKASH_SCHEMA = 43,    /* a table has other columns or another key than in an earlier file */
     VOLLIKASH_NO_MEMORY = 60, /* memory ran out */
-    VOLLIKASH_NO_ROOM = 80,   /* `out` is too small, and `written` has the length that is needed; or `values` is */
+    VOLLIKASH_NO_ROOM = 80,   /* `out` is too small: `written` has the length it needs; or `values` is */
     VOLLIKASH_DONE = 81,      /* no change is left */
     VOLLIKASH_RANGE = 82      /* a column, a side, a length or a number is out of range */
 };
@@ -233,11 +233,11 @@ int vollikash_value(const uint8_t *file, size_t length, const struct vollikash_c
 ** each value are as for vollikash_value. Returns OK, or NO_ROOM if `count` is less than
 ** change->columns, or RANGE if there is no such side; then `values` is unchanged. For a
 ** `change` that vollikash_next did not return for these bytes it may also return 1, 4 or
-** 12 to 14, and values that mean nothing. Values behind those of the columns are always
+** 12 to 14, and values that mean nothing. Values after those of the columns are always
 ** unchanged. A call takes time in proportion to the bytes of the change.
 */
-int vollikash_values(const uint8_t *file, size_t length, const struct vollikash_change *change, int side,
-                     struct vollikash_field *values, size_t count) VOLLIKASH_NONNULL;
+int vollikash_values(const uint8_t *file, size_t length, const struct vollikash_change *change,
+                     int side, struct vollikash_field *values, size_t count) VOLLIKASH_NONNULL;
 
 /* The bytes of a text or a blob, of which there are `length`. No zero byte is after them. */
 static inline const uint8_t *vollikash_bytes(const uint8_t *file, const struct vollikash_field *value)
