@@ -192,7 +192,7 @@ field_on-none New (Update old new) column is = cc
 pub keeps_same : (count : ℕ) (spans : List ValueSpan) → KeepsOthers count spans spans
 keeps_same count spans = record { size = refl; each = λ at le. refl }
 
--- those behind more are among those behind fewer
+-- what is after more spans is after fewer, too
 pub keeps_less : (few count : ℕ) (old new : List ValueSpan) → few ≤ count → KeepsOthers few old new → KeepsOthers count old new
 keeps_less few count old new le kept = record { size = kept.size; each = λ at behind. kept.each at (omega (arith, le, behind)) }
 

@@ -48,7 +48,7 @@ abbrev pub ShowsValues : List ℕ → ℕ → (ℕ → Option OwnedField) → Li
 ShowsValues file count field spans =
     (column : ℕ) → column < count → ShowsValue file (value_at spans column) (field column)
 
--- there are as many spans as before, and all behind the first ones are as they were
+-- there are as many spans as before, and all after the first ones are as they were
 pub record KeepsOthers (count : ℕ) (old new : List ValueSpan) : Type 0 where
   pub size : length new ≡ length old
   pub each : (at : ℕ) → count ≤ at → value_at new at ≡ value_at old at

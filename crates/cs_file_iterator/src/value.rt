@@ -86,7 +86,7 @@ pub fn change_value(
 
 /// Puts what a change of a file says of each column on one side into the front of the spans, in one pass over the
 /// change. Returns whether it does: nothing changes where there are fewer spans than columns. The fields are undefined
-/// if the change has no record on that side. Spans behind those of the columns are not changed.
+/// if the change has no record on that side. Spans after those of the columns are not changed.
 ///
 /// `change` is as [`next_change`](crate::next_change) returned it for the file. A call takes time in proportion to the
 /// bytes of the change and its columns, and allocates nothing.

@@ -118,7 +118,7 @@ pub extern "C" fn vollikash_value(
 ///
 /// `change` and `side` are as for [`vollikash_value`]. It answers `OK`, or `NO_ROOM` if there are fewer `values` than
 /// columns, or `RANGE` if there is no such side; then all are unchanged. Or it answers the number of what is wrong with
-/// the file, and the values of the columns mean nothing. Values behind those of the columns are not changed. It
+/// the file, and the values of the columns mean nothing. Values after those of the columns are not changed. It
 /// allocates nothing.
 #[unsafe(no_mangle)]
 pub extern "C" fn vollikash_values(
