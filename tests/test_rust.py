@@ -129,22 +129,24 @@ class Crate(unittest.TestCase):
 
     @needs_library
     def test_pkg_config(self) -> None:
-        """The library is found by its file for pkg-config, also in a folder with a space."""
+        """The library is found by its file for pkg-config, also in a folder with a space, and by the file's own place."""
         if not shutil.which("pkg-config"):
             self.skipTest("no pkg-config")
         with tempfile.TemporaryDirectory(prefix="a prefix") as folder:
             shutil.copy(BUILT / "libvollikash.a", folder)
             text = (TOP / "bindings/c/vollikash.pc.in").read_text()
-            pathlib.Path(folder, "vollikash.pc").write_text(re.sub("@[A-Z]+@", folder, text))
-            self.expect("check", "--offline", VOLLIKASH_DIR=None, PKG_CONFIG_PATH=folder)
+            for place in (folder, "${pcfiledir}"):
+                with self.subTest(place):
+                    pathlib.Path(folder, "vollikash.pc").write_text(re.sub("@[A-Z]+@", place, text))
+                    self.expect("check", "--offline", VOLLIKASH_DIR=None, PKG_CONFIG_PATH=folder)
 
     def test_missing_library(self) -> None:
         """The build ends with a sentence if no library is found."""
-        for folder in ("", "/nowhere", str(CRATE)):
+        for folder, shown in (("lib", f'"lib" (from "{CRATE}")'), ("/nowhere", '"/nowhere"'), (str(CRATE), f'"{CRATE}"')):
             done = self.run_cargo("check", "--offline", VOLLIKASH_DIR=folder)
             with self.subTest(folder):
                 self.assertNotEqual(done.returncode, 0)
-                self.assertIn(f'vollikash: VOLLIKASH_DIR is "{folder}", which has no libvollikash.a', done.stderr)
+                self.assertIn(f"vollikash: VOLLIKASH_DIR is {shown}, which has no libvollikash.a", done.stderr)
 
 
 if __name__ == "__main__":

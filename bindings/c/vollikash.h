@@ -288,7 +288,9 @@ int vollikash_concat(const uint8_t *first, size_t first_length, const uint8_t *s
 ** 1; RANGE if a length is more than the bytes that are left, or bytes are left after the
 ** last file; NO_MEMORY, NO_ROOM. Wrong lengths can also look like a damaged file. It
 ** takes time in proportion to the number of files times the longest concatenation on the
-** way: for thousands of files, concatenate neighbours first.
+** way. For thousands of files that were recorded one after the other, concatenate
+** neighbours first. Of other files that can make another changeset: an INSERT, the same
+** INSERT and its DELETE make none, but the INSERT if the last two come first.
 */
 int vollikash_concat_many(const uint8_t *files, size_t files_length, const size_t *lengths, size_t count,
                           uint8_t *out, size_t room, size_t *written,

@@ -26,8 +26,15 @@ fn main() {
 fn find() -> Result<PathBuf, String> {
     if let Some(folder) = env::var_os("VOLLIKASH_DIR") {
         let folder = Path::new(&folder);
-        return with_library(folder)
-            .ok_or_else(|| format!("VOLLIKASH_DIR is {folder:?}, which has no {LIBRARY}"));
+        return with_library(folder).ok_or_else(|| {
+            let here = env::current_dir().unwrap_or_default();
+            let from = if folder.is_relative() {
+                format!(" (from {here:?})")
+            } else {
+                String::new()
+            };
+            format!("VOLLIKASH_DIR is {folder:?}{from}, which has no {LIBRARY}")
+        });
     }
     let folder = by_pkg_config().ok_or(
         "set VOLLIKASH_DIR to the folder of libvollikash.a, \
@@ -51,6 +58,16 @@ fn by_pkg_config() -> Option<PathBuf> {
         .output()
         .ok()?;
     let printed = String::from_utf8(output.stdout).ok()?;
-    let folder = printed.trim_end_matches('\n');
+    let folder = unescaped(printed.trim_end_matches('\n'));
     (output.status.success() && !folder.is_empty()).then(|| PathBuf::from(folder))
+}
+
+/// Returns a text without the backslashes by which pkg-config protects the characters of a path.
+fn unescaped(text: &str) -> String {
+    let mut characters = text.chars();
+    let next = || match characters.next()? {
+        '\\' => characters.next(),
+        other => Some(other),
+    };
+    std::iter::from_fn(next).collect()
 }

@@ -1,6 +1,7 @@
 //! Prints the changes of a file: `cargo run --example inspect FILE`.
 
 use std::error::Error;
+use std::io::{self, Write};
 use std::{env, fs, process};
 
 use vollikash::{changes, Change, Operation, Value};
@@ -12,11 +13,12 @@ fn shown(value: Option<Value<'_>>) -> String {
         Some(Value::Integer(number)) => number.to_string(),
         Some(Value::Text(text)) => format!("'{}'", text.replace('\'', "''")),
         Some(Value::Blob(blob)) => format!("a blob of {} bytes", blob.len()),
-        Some(_) => "NULL".to_string(),
+        Some(Value::Null) => "NULL".to_string(),
+        Some(other) => format!("{other:?}"),
     }
 }
 
-fn print(change: &Change<'_>) {
+fn print(out: &mut impl Write, change: &Change<'_>) -> io::Result<()> {
     let operation = match change.operation() {
         Operation::Insert => "insert",
         Operation::Update => "update",
@@ -24,15 +26,17 @@ fn print(change: &Change<'_>) {
     };
     let [old, new] = [change.old_values(), change.new_values()]
         .map(|side| side.into_iter().map(shown).collect::<Vec<_>>().join(" "));
-    println!("{} {operation}: {old} -> {new}", change.table());
+    writeln!(out, "{} {operation}: {old} -> {new}", change.table())
 }
 
 fn run(path: &str) -> Result<(), Box<dyn Error>> {
     let file = fs::read(path)?;
     vollikash::check(&file)?;
+    let mut out = io::BufWriter::new(io::stdout());
     for change in changes(&file) {
-        print(&change?);
+        print(&mut out, &change?)?;
     }
+    out.flush()?;
     Ok(())
 }
 

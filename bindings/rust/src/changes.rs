@@ -34,10 +34,14 @@ pub enum Value<'a> {
 
 /// Returns an iterator over the changes of a file.
 ///
-/// It ends after an error. The error is that of [`check`](crate::check), at the same place. But the
-/// iterator does not notice [`DuplicateTable`](crate::Code::DuplicateTable) and
-/// [`DuplicateKey`](crate::Code::DuplicateKey), and goes on. Check a file first if nothing is to be
-/// done for a damaged one.
+/// A step takes time in proportion to the change, and allocates nothing.
+///
+/// # Errors
+///
+/// The error of [`check`](crate::check), at the same place, after which the iterator ends. But it does
+/// not notice [`DuplicateTable`](crate::Code::DuplicateTable) and
+/// [`DuplicateKey`](crate::Code::DuplicateKey), and goes on. Call `check` first if no change may be
+/// used of a file that is damaged.
 ///
 /// ```
 /// use vollikash::{changes, Value};
@@ -117,7 +121,7 @@ impl<'a> Change<'a> {
 
     /// Returns the number of columns of the table.
     #[must_use]
-    pub fn columns(&self) -> usize {
+    pub fn column_count(&self) -> usize {
         self.key_flags().len()
     }
 
@@ -128,33 +132,41 @@ impl<'a> Change<'a> {
         self.0.flags()
     }
 
-    /// Returns the value of a zero-based column before the change.
+    /// Returns whether a zero-based column is of the key. It is not if there is no such column.
+    #[must_use]
+    pub fn is_key(&self, column: usize) -> bool {
+        self.key_flags()
+            .get(column)
+            .map_or(false, |flag| *flag != 0)
+    }
+
+    /// Returns the value of a zero-based column before the change. NULL is `Some(Value::Null)`.
     ///
     /// It is `None` for an INSERT, for a column that an UPDATE does not modify, and if there is no
     /// such column. An UPDATE has the values of the key here. A call takes time in proportion to the
     /// bytes of the change up to the value: see [`old_values`](Self::old_values).
     #[must_use]
-    pub fn old(&self, column: usize) -> Option<Value<'a>> {
+    pub fn old_value(&self, column: usize) -> Option<Value<'a>> {
         self.value(Side::Old, column)
     }
 
-    /// Returns the value of a zero-based column after the change.
+    /// Returns the value of a zero-based column after the change. NULL is `Some(Value::Null)`.
     ///
-    /// It is `None` for a DELETE, for the key and a column that is not modified of an UPDATE, and if
-    /// there is no such column.
+    /// It is `None` for a DELETE, and if there is no such column. Of an UPDATE it is `None` for the
+    /// key, and for a column that is not modified. A call takes time in proportion to the bytes of
+    /// the change up to the value: see [`new_values`](Self::new_values).
     #[must_use]
-    #[allow(clippy::new_ret_no_self)]
-    pub fn new(&self, column: usize) -> Option<Value<'a>> {
+    pub fn new_value(&self, column: usize) -> Option<Value<'a>> {
         self.value(Side::New, column)
     }
 
-    /// Returns what [`old`](Self::old) does for each column, in one pass over the change.
+    /// Returns what [`old_value`](Self::old_value) does for each column, in one pass over the change.
     #[must_use]
     pub fn old_values(&self) -> Vec<Option<Value<'a>>> {
         self.values(Side::Old)
     }
 
-    /// Returns what [`new`](Self::new) does for each column, in one pass over the change.
+    /// Returns what [`new_value`](Self::new_value) does for each column, in one pass over the change.
     #[must_use]
     pub fn new_values(&self) -> Vec<Option<Value<'a>>> {
         self.values(Side::New)

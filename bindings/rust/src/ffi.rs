@@ -2,10 +2,12 @@
 //!
 //! What the header asks of each call holds by the types: a slice or a reference is never NULL, is
 //! aligned, has at most `isize::MAX` bytes and is changed by nobody else, and a `&mut` overlaps
-//! nothing else. All memory is initialized. A `SAFETY` comment names what else a call asks. A `char`
-//! of the header is a `u8` here.
+//! nothing else. A `SAFETY` comment names what else a call asks. A `char` of the header is a `u8` here.
 
 use std::os::raw::c_int;
+
+/// The version of the header.
+const VERSION: c_int = 1_000_000;
 
 const OK: c_int = 0;
 const NO_ROOM: c_int = 80;
@@ -100,6 +102,16 @@ pub(crate) fn version() -> c_int {
     unsafe { vollikash_version() }
 }
 
+/// Expects the version of the header: another one can have other structs.
+///
+/// # Panics
+///
+/// If the library has another version.
+fn expect_version() {
+    let version = version();
+    assert_eq!(version, VERSION, "libvollikash.a has another version");
+}
+
 /// Returns the sentence for a number.
 pub(crate) fn message(code: c_int) -> String {
     let mut out = [0_u8; MESSAGE_ROOM];
@@ -115,6 +127,7 @@ pub(crate) fn message(code: c_int) -> String {
 
 /// Checks a file.
 pub(crate) fn check(file: &[u8]) -> Result<(), Fault> {
+    expect_version();
     let mut fault = Fault::default();
     // SAFETY: `file` has as many bytes as its length says.
     match unsafe { vollikash_check(file.as_ptr(), file.len(), &mut fault) } {
@@ -125,8 +138,8 @@ pub(crate) fn check(file: &[u8]) -> Result<(), Fault> {
 
 /// What a call reports that makes bytes.
 pub(crate) enum Made {
-    /// The call wrote this number of bytes.
-    Bytes(usize),
+    /// The bytes are in the buffer.
+    Done,
     /// The call needs this number of bytes.
     NoRoom(usize),
     /// The call refuses its files.
@@ -146,20 +159,31 @@ macro_rules! makes {
             ) -> c_int;)+
         }
 
-        $(pub(crate) fn $name($($slice: &[$item],)+ out: &mut [u8]) -> Made {
-            let (room, out) = (out.len(), out.as_mut_ptr());
-            let (mut written, mut fault) = (0, Fault::default());
-            // SAFETY: each slice has as many items as its length says, and `out` as many bytes. The
-            // slices may overlap each other.
-            let code = unsafe {
-                $call($($slice.as_ptr(), $slice.len(),)+ out, room, &mut written, &mut fault)
-            };
-            match code {
-                OK => Made::Bytes(written),
-                NO_ROOM => Made::NoRoom(written),
-                _ => Made::Refused(fault),
+        $(
+            /// Puts what the call makes into an empty buffer, within its capacity.
+            pub(crate) fn $name($($slice: &[$item],)+ out: &mut Vec<u8>) -> Made {
+                expect_version();
+                assert!(out.is_empty(), "the buffer is not empty");
+                let (room, at) = (out.capacity(), out.as_mut_ptr());
+                let (mut written, mut fault) = (0, Fault::default());
+                // SAFETY: each slice has as many items as its length says, and `out` has room for as
+                // many bytes as its capacity says. They may be uninitialized. The slices may overlap
+                // each other.
+                let code = unsafe {
+                    $call($($slice.as_ptr(), $slice.len(),)+ at, room, &mut written, &mut fault)
+                };
+                match code {
+                    OK => {
+                        assert!(written <= room, "the library wrote {written} bytes");
+                        // SAFETY: the call has written that many bytes, and there is room for them.
+                        unsafe { out.set_len(written) };
+                        Made::Done
+                    }
+                    NO_ROOM => Made::NoRoom(written),
+                    _ => Made::Refused(fault),
+                }
             }
-        })+
+        )+
     };
 }
 
@@ -184,6 +208,7 @@ pub(crate) struct Cursor<'a> {
 impl<'a> Cursor<'a> {
     /// Returns the start of a file.
     pub(crate) fn new(file: &'a [u8]) -> Self {
+        expect_version();
         let spans = Spans::default();
         Self {
             file,
@@ -282,7 +307,8 @@ mod tests {
     use std::path::Path;
     use std::process::{Command, Stdio};
 
-    const HEADER: &str = concat!(env!("CARGO_MANIFEST_DIR"), "/../c");
+    /// Where the header is, in the repository and in a release.
+    const HEADERS: [&str; 2] = ["../c", "../../include"];
 
     /// Returns assertions of C on the size of a struct and the offsets of its fields.
     macro_rules! layout {
@@ -308,18 +334,25 @@ mod tests {
         ));
         facts.extend(layout!("vollikash_field", Field: kind, integer, offset, length));
         facts.push(format!("VOLLIKASH_MESSAGE_ROOM == {MESSAGE_ROOM}"));
+        facts.push(format!("VOLLIKASH_VERSION == {VERSION}"));
         facts
     }
 
     /// A C compiler accepts the assertions. Without one, or without the header, nothing is tested.
     #[test]
     fn layouts_are_those_of_the_header() {
-        if !Path::new(HEADER).join("vollikash.h").exists() {
-            return;
-        }
-        let words = ["-std=c11", "-fsyntax-only", "-I", HEADER, "-x", "c", "-"];
-        let started = Command::new("cc").args(words).stdin(Stdio::piped()).spawn();
-        let mut compiler = match started {
+        let crate_folder = Path::new(env!("CARGO_MANIFEST_DIR"));
+        let folders = HEADERS.iter().map(|it| crate_folder.join(it));
+        let mut command = Command::new("cc");
+        match folders
+            .into_iter()
+            .find(|it| it.join("vollikash.h").exists())
+        {
+            Some(folder) => command.arg("-I").arg(folder),
+            None => return,
+        };
+        command.args(["-std=c11", "-fsyntax-only", "-x", "c", "-"]);
+        let mut compiler = match command.stdin(Stdio::piped()).spawn() {
             Ok(compiler) => compiler,
             Err(_) => return,
         };

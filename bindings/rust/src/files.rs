@@ -40,7 +40,8 @@ pub fn number_keys(file: &[u8]) -> Result<Vec<u8>, Error> {
     make(file.len(), |out| ffi::number_keys(file, out))
 }
 
-/// Returns the concatenation, which does what the first file does and then what the second does.
+/// Returns the concatenation, which does what the first file does and then what the second does. It
+/// is at most as long as both.
 ///
 /// # Errors
 ///
@@ -56,7 +57,9 @@ pub fn concat(first: &[u8], second: &[u8]) -> Result<Vec<u8>, Error> {
 /// Returns the concatenation of many files, in their order. Without a file it has no bytes.
 ///
 /// It takes time in proportion to the number of files times the longest concatenation on the way.
-/// Concatenate neighbours first if there are thousands of files.
+/// For thousands of files that were recorded one after the other, concatenate neighbours first. Of
+/// other files that can make another changeset: an INSERT, the same INSERT and its DELETE make none,
+/// but the INSERT if the last two come first.
 ///
 /// # Errors
 ///
@@ -77,7 +80,9 @@ pub fn concat_many(files: impl IntoIterator<Item = impl AsRef<[u8]>>) -> Result<
     let mut lengths = Vec::new();
     for file in files {
         let file = file.as_ref();
+        reserve(&mut all, file.len())?;
         all.extend_from_slice(file);
+        reserve(&mut lengths, 1)?;
         lengths.push(file.len());
     }
     make(all.len(), |out| ffi::concat_many(&all, &lengths, out))
@@ -85,7 +90,8 @@ pub fn concat_many(files: impl IntoIterator<Item = impl AsRef<[u8]>>) -> Result<
 
 /// Returns the file of the tables that are named, in the order of the file.
 ///
-/// A name that the file does not have is ignored. Without any the result has no bytes.
+/// Names are compared byte by byte, so `T` is not `t`. A name that the file does not have is ignored.
+/// Without any the result has no bytes.
 ///
 /// # Errors
 ///
@@ -94,19 +100,21 @@ pub fn select(
     file: &[u8],
     tables: impl IntoIterator<Item = impl AsRef<str>>,
 ) -> Result<Vec<u8>, Error> {
-    let mut names = String::new();
+    let mut names = Vec::new();
     for table in tables {
         let table = table.as_ref();
         // A zero byte ends a name for the library, and no table has one in its name.
         if !table.contains('\0') {
-            names.push_str(table);
-            names.push('\0');
+            reserve(&mut names, table.len() + 1)?;
+            names.extend_from_slice(table.as_bytes());
+            names.push(0);
         }
     }
-    make(file.len(), |out| ffi::select(file, names.as_bytes(), out))
+    make(file.len(), |out| ffi::select(file, &names, out))
 }
 
-/// Returns a line for each table and each change.
+/// Returns a line for each table and each change, to be read by people: texts and names are in it as
+/// they are, line feeds too.
 ///
 /// # Errors
 ///
@@ -115,8 +123,8 @@ pub fn dump(file: &[u8]) -> Result<String, Error> {
     make_text(file, ffi::dump)
 }
 
-/// Returns a readable SQL statement for each change. The columns are `c1`, `c2` and so on, since
-/// the format has no names of columns.
+/// Returns a SQL statement for each change, to be read by people: texts are in it as they are. The
+/// columns are `c1`, `c2` and so on, since the format has no names of columns.
 ///
 /// # Errors
 ///
@@ -126,39 +134,38 @@ pub fn sql(file: &[u8]) -> Result<String, Error> {
 }
 
 /// Returns the text that a call makes of a file. Most texts have room in the first buffer.
-fn make_text(file: &[u8], call: fn(&[u8], &mut [u8]) -> Made) -> Result<String, Error> {
+fn make_text(file: &[u8], call: fn(&[u8], &mut Vec<u8>) -> Made) -> Result<String, Error> {
     let room = file.len().saturating_mul(4).saturating_add(256);
     let mut text = make(room, |out| call(file, out))?;
     text.shrink_to_fit();
     Ok(String::from_utf8(text).expect("the library makes UTF-8"))
 }
 
-/// Returns what a call makes in a buffer of this length, or in one of the length that it asks for.
-fn make(room: usize, call: impl Fn(&mut [u8]) -> Made) -> Result<Vec<u8>, Error> {
-    let mut out = zeroed(room)?;
+/// Returns what a call makes in a buffer with this room, or with the room that it asks for.
+fn make(room: usize, call: impl Fn(&mut Vec<u8>) -> Made) -> Result<Vec<u8>, Error> {
+    let mut out = with_room(room)?;
     let mut made = call(&mut out);
     if let Made::NoRoom(needed) = made {
-        out = zeroed(needed)?;
+        out = with_room(needed)?;
         made = call(&mut out);
     }
     match made {
-        Made::Bytes(written) => {
-            assert!(written <= out.len(), "the library wrote {written} bytes");
-            out.truncate(written);
-            Ok(out)
-        }
+        Made::Done => Ok(out),
         Made::NoRoom(needed) => panic!("the library asks for {needed} bytes again"),
         Made::Refused(fault) => Err(Error::of(fault)),
     }
 }
 
-/// Returns a buffer of zero bytes.
-fn zeroed(room: usize) -> Result<Vec<u8>, Error> {
-    let mut out = Vec::new();
-    out.try_reserve_exact(room)
-        .map_err(|_| Error::no_memory())?;
-    out.resize(room, 0);
-    Ok(out)
+/// Returns an empty list with room for this many items.
+fn with_room<T>(room: usize) -> Result<Vec<T>, Error> {
+    let mut list = Vec::new();
+    reserve(&mut list, room)?;
+    Ok(list)
+}
+
+/// Makes room for this many more items.
+fn reserve<T>(list: &mut Vec<T>, more: usize) -> Result<(), Error> {
+    list.try_reserve(more).map_err(|_| Error::no_memory())
 }
 
 #[cfg(test)]
@@ -168,7 +175,7 @@ mod tests {
 
     #[test]
     fn buffer_that_no_memory_has() {
-        let error = zeroed(usize::MAX).unwrap_err();
+        let error = with_room::<u8>(usize::MAX).unwrap_err();
         assert_eq!(error.code(), Code::NoMemory);
         assert_eq!((error.which_file(), error.offset()), (None, None));
         assert_eq!(error.to_string(), "out of memory");

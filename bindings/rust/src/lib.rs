@@ -2,6 +2,7 @@
 //! session extension. The crate calls the C library of Vollikash, whose core is proved.
 //!
 //! A *file* is the bytes of a changeset. No bytes are the file of the changeset without a table.
+//! Floating-point values, texts that are not UTF-8, and patchsets are refused.
 //!
 //! ```
 //! use vollikash::{changes, invert, sql, Operation, Value};
@@ -14,15 +15,16 @@
 //!     let change = change?;
 //!     assert_eq!(change.table(), "t");
 //!     assert_eq!(change.operation(), Operation::Delete);
-//!     assert_eq!(change.old(0), Some(Value::Integer(1)));
-//!     assert_eq!(change.old(1), Some(Value::Text("x")));
+//!     assert_eq!(change.old_value(0), Some(Value::Integer(1)));
+//!     assert_eq!(change.old_value(1), Some(Value::Text("x")));
 //! }
 //! # Ok(())
 //! # }
 //! ```
 //!
-//! No call keeps state: several threads can call at once. A call needs 128 KiB of stack. Make none in
-//! a signal handler, or in the child of a fork of a process with threads.
+//! No call keeps state: several threads can call at once. A call needs 128 KiB of stack, and at most
+//! some twenty times the bytes of its files. Make none in a signal handler, or in the child of a fork
+//! of a process with threads. A call panics if the library has another version than the crate.
 #![deny(missing_docs)]
 #![deny(unsafe_code)]
 #![warn(unsafe_op_in_unsafe_fn)]

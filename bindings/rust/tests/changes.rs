@@ -97,9 +97,12 @@ fn hundred_columns() -> Result<(), Error> {
     flags[99] = 1;
     let file = [header("wide", &flags), b"\x09\x01".to_vec(), record(&row)].concat();
     let change = changes(&file).next().unwrap()?;
-    assert_eq!((change.columns(), change.key_flags()), (100, &flags[..]));
+    assert_eq!(
+        (change.column_count(), change.key_flags()),
+        (100, &flags[..])
+    );
     assert_eq!(change.old_values(), row);
-    assert!((0..100).all(|column| change.old(column) == row[column]));
+    assert!((0..100).all(|column| change.old_value(column) == row[column]));
     assert_eq!(change.new_values(), vec![None; 100]);
     Ok(())
 }
@@ -108,7 +111,10 @@ fn hundred_columns() -> Result<(), Error> {
 fn columns_that_are_not_there() -> Result<(), Error> {
     let change = changes(UPDATE).next().unwrap()?;
     for column in [2, 3, usize::MAX] {
-        assert_eq!((change.old(column), change.new(column)), (None, None));
+        assert_eq!(
+            (change.old_value(column), change.new_value(column)),
+            (None, None)
+        );
     }
     Ok(())
 }
@@ -117,7 +123,7 @@ fn columns_that_are_not_there() -> Result<(), Error> {
 fn names_and_values_outlive_the_change() {
     fn first(file: &[u8]) -> Option<(&str, Value<'_>)> {
         let change = changes(file).next()?.ok()?;
-        Some((change.table(), change.new(1)?))
+        Some((change.table(), change.new_value(1)?))
     }
     assert_eq!(first(INSERT), Some(("t", Value::Text("x"))));
 }
@@ -167,10 +173,13 @@ fn assert_agreement(file: &[u8]) {
 fn assert_change(change: &Change<'_>) {
     let (old, new) = (change.old_values(), change.new_values());
     assert!(!change.table().is_empty());
-    assert_eq!((old.len(), new.len()), (change.columns(), change.columns()));
-    for column in 0..change.columns() {
-        assert_eq!(change.old(column), old[column]);
-        assert_eq!(change.new(column), new[column]);
+    assert_eq!(
+        (old.len(), new.len()),
+        (change.column_count(), change.column_count())
+    );
+    for column in 0..change.column_count() {
+        assert_eq!(change.old_value(column), old[column]);
+        assert_eq!(change.new_value(column), new[column]);
     }
     assert_eq!(
         old.iter().all(Option::is_none),
