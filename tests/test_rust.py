@@ -129,7 +129,7 @@ class Crate(unittest.TestCase):
 
     @needs_library
     def test_pkg_config(self) -> None:
-        """The library is found by its file for pkg-config, also in a folder with a space, and by the file's own place."""
+        """The library is found by pkg-config, also in a folder with a space, and by the place of its file."""
         if not shutil.which("pkg-config"):
             self.skipTest("no pkg-config")
         with tempfile.TemporaryDirectory(prefix="a prefix") as folder:
@@ -142,7 +142,8 @@ class Crate(unittest.TestCase):
 
     def test_missing_library(self) -> None:
         """The build ends with a sentence if no library is found."""
-        for folder, shown in (("lib", f'"lib" (from "{CRATE}")'), ("/nowhere", '"/nowhere"'), (str(CRATE), f'"{CRATE}"')):
+        here = f'"{CRATE}"'
+        for folder, shown in (("lib", f'"lib" (from {here})'), ("/nowhere", '"/nowhere"'), (str(CRATE), here)):
             done = self.run_cargo("check", "--offline", VOLLIKASH_DIR=folder)
             with self.subTest(folder):
                 self.assertNotEqual(done.returncode, 0)

@@ -83,7 +83,7 @@ enum vollikash_code {
 
     VOLLIKASH_SCHEMA = 43,    /* a table has other columns or another key than in an earlier file */
     VOLLIKASH_NO_MEMORY = 60, /* memory ran out */
-    VOLLIKASH_NO_ROOM = 80,   /* `out` is too small: `written` has the length it needs; or `values` is */
+    VOLLIKASH_NO_ROOM = 80,   /* `out` is too small, and `written` has the length; or `values` is */
     VOLLIKASH_DONE = 81,      /* no change is left */
     VOLLIKASH_RANGE = 82      /* a column, a side, a length or a number is out of range */
 };
