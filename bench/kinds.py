@@ -4,7 +4,10 @@ from __future__ import annotations
 
 from typing import NamedTuple
 
-from shapes import BLOB, CHANGED, CRAFTED, INSERTS, LONG, MADE, MIX, SHUFFLED, TEN, WIDE, Shape
+from shapes import (
+    BLOB, CHANGED, CRAFTED, FILES_OF_TEN, INSERTS, LONG, MADE, MIX, SHUFFLED, TEN, TEN_FILES, WIDE,
+    Shape,
+)
 
 
 class Kind(NamedTuple):
@@ -55,6 +58,8 @@ WORDS = {MIX: "mix", INSERTS: "inserts", BLOB: "blob"}
 CHECKS = "the file is checked to its end first, for repeated keys too"
 INVERTS = "the file is checked, for repeated keys too; SQLite copies INSERTs unread"
 CHECKS_BOTH = "both files are checked to their ends first; crafted keys fall into one bucket"
+CHECKS_EACH = "each file is checked to its end first"
+INDEXES = "the files stay in memory, and each entry has its offsets and the number of its key"
 KEYS = "a number of each key of a table is kept unless they rise, to find repeated ones"
 COPIES = "the bytes are made apart, and then copied into the buffer of the caller"
 RECORDS = "the file is checked page by page and index by index, and then each record is decoded"
@@ -113,6 +118,7 @@ APPLY = command("apply", " store", "apply base file", APPLIED, ON_KIT)._replace(
 KINDS = (
     call("invert", "file", ALL, INVERTS, COPIES),
     call("concat", "file more", PAIRS, CHECKS_BOTH, COPIES),
+    call("concat_many", "files lengths", (FILES_OF_TEN, TEN_FILES), CHECKS_EACH, INDEXES),
     call("check", "file", ALL, CHECKS, KEYS),
     call("next", "file", ALL, UNKNOWN, UNKNOWN),
     command("invert", " out", "invert other file", ALL, INVERTS),

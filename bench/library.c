@@ -1,7 +1,7 @@
 /*
 ** The calls of SQLite's library that `calls.c` makes: its iterator without values (check), with
-** values (next), and with values that are printed (dump); invert, concat, apply; and its check of a
-** database (integrity).
+** values (next), and with values that are printed (dump); invert, concat, its changegroup
+** (concat_many), apply; and its check of a database (integrity).
 */
 #define SQLITE_ENABLE_SESSION 1
 #define SQLITE_ENABLE_PREUPDATE_HOOK 1
@@ -101,6 +101,24 @@ static int apply_or_check(const char *operation, const char *name, const struct 
     return code;
 }
 
+/* Adds files of these lengths to a changegroup, and makes its file. */
+static int group(const struct bytes *files, const struct bytes *lengths, int *made, void **bytes)
+{
+    const size_t *length = (const size_t *)(const void *)lengths->at;
+    const size_t *end = length + lengths->count / sizeof *length;
+    uint8_t *file = files->at;
+    sqlite3_changegroup *all;
+    int code = sqlite3changegroup_new(&all);
+    for (; code == SQLITE_OK && length < end; file += *length++) {
+        code = sqlite3changegroup_add(all, (int)*length, file);
+    }
+    if (code == SQLITE_OK) {
+        code = sqlite3changegroup_output(all, made, bytes);
+    }
+    sqlite3changegroup_delete(all);
+    return code;
+}
+
 int call(const char *operation, const char *name, const struct bytes *files, struct bytes *out)
 {
     int made = 0, code, first = (int)files[0].count, second = (int)files[1].count;
@@ -112,6 +130,8 @@ int call(const char *operation, const char *name, const struct bytes *files, str
         code = sqlite3changeset_invert(first, files[0].at, &made, &bytes);
     } else if (strcmp(operation, "concat") == 0) {
         code = sqlite3changeset_concat(first, files[0].at, second, files[1].at, &made, &bytes);
+    } else if (strcmp(operation, "concat_many") == 0) {
+        code = group(&files[0], &files[1], &made, &bytes);
     } else {
         return pass(files, operation);
     }

@@ -1,4 +1,4 @@
-/* The calls of Vollikash that `calls.c` makes: check, next, invert, concat. */
+/* The calls of Vollikash that `calls.c` makes: check, next, invert, concat, concat_many. */
 #include <stdlib.h>
 #include <string.h>
 
@@ -46,6 +46,12 @@ int call(const char *operation, const char *name, const struct bytes *files, str
     }
     if (strcmp(operation, "invert") == 0) {
         return vollikash_invert(first->at, first->count, out->at, room, &out->count, &fault);
+    }
+    if (strcmp(operation, "concat_many") == 0) {
+        const size_t *lengths = (const size_t *)(const void *)second->at;
+        size_t files = second->count / sizeof *lengths;
+        return vollikash_concat_many(first->at, first->count, lengths, files, out->at, room,
+                                     &out->count, &fault);
     }
     return vollikash_concat(first->at, first->count, second->at, second->count, out->at, room,
                             &out->count, &fault);

@@ -11,6 +11,7 @@ import os
 import pathlib
 import random
 import sqlite3
+import struct
 import sys
 import traceback
 from collections.abc import Callable, Iterable, Iterator
@@ -39,11 +40,13 @@ class Shape(NamedTuple):
     # The most entries that are applied: SQLite takes the square of the time to make more tables.
     most_applied: int = 1_000_000
     order: str = ""  # of the keys: in order, "shuffled" or "crafted"
+    many: Callable[[int], int] = int  # the files among which so many entries are divided
 
 
 MIX, TEN, WIDE, LONG = "one table", "tables of ten", "rows of a hundred", "texts of 1 kB"
 INSERTS, SHUFFLED, BLOB, CRAFTED = "INSERTs only", "shuffled keys", "one blob", "crafted keys"
 CHANGED = "INSERTs, then changes of them"
+FILES_OF_TEN, TEN_FILES = "files of ten", "ten files"
 
 SHAPES = (
     Shape(MIX),
@@ -55,6 +58,8 @@ SHAPES = (
     Shape(LONG, COUNTS[:3], text="a" * 999 + "b"),
     Shape(BLOB, (1,), text=bytes(100_000_000), is_mix=False),
     Shape(CRAFTED, (2_500, 5_000), order="crafted"),
+    Shape(FILES_OF_TEN, COUNTS[:3], many=lambda count: count // 10),
+    Shape(TEN_FILES, many=lambda count: 10),
 )
 
 
@@ -124,6 +129,21 @@ def second_file(shape: Shape, count: int) -> Iterator[bytes]:
             yield from (entry(number + key // 3, key) for key in keys)
         else:
             yield from (entry(1 + key % 2 if shape.is_changed else 0, key) for key in keys)
+
+
+def many_files(shape: Shape, count: int) -> Iterator[bytes]:
+    """Yield files. Half of the keys of each are in the one before it too."""
+    entry, files = entry_of(shape), shape.many(count)
+    size = count // files
+    for number in range(files):
+        keys = range(number * size // 2, number * size // 2 + size)
+        entries = (entry(number + key // 3, key) for key in keys)
+        yield b"".join((stores.header("t", 1, 0), *entries))
+
+
+def lengths(shape: Shape, count: int) -> Iterator[bytes]:
+    """Yield the length of each of these files, as C has it."""
+    yield from (struct.pack("N", len(file)) for file in many_files(shape, count))
 
 
 def rows(shape: Shape, keys: Iterable[int], is_before: bool) -> Iterator[int]:
@@ -211,6 +231,8 @@ PARTS: dict[str, Callable[[Shape, int], Iterable[bytes]]] = {
     "none": lambda shape, count: [],
     "file": first_file,
     "more": second_file,
+    "files": many_files,
+    "lengths": lengths,
     "lines": lambda shape, count: script(shape, count, ()),
     "session": lambda shape, count: script(shape, count, (".session changeset c",)),
     "undo": lambda shape, count: script(shape, count, (".session changeset c", ".session undo")),

@@ -47,7 +47,8 @@ class Header(unittest.TestCase):
 
     def test_calls(self) -> None:
         declared = re.findall(r"(?:fn|=) (vollikash_\w+)\(", (CRATE / "src/ffi.rs").read_text())
-        self.assertEqual(sorted(declared), sorted(re.findall(r"^int (vollikash_\w+)\(", self.header, re.M)))
+        exported = re.findall(r"^(?:int|size_t|void) (vollikash_\w+)\(", self.header, re.M)
+        self.assertEqual(sorted(declared), sorted(exported))
 
     def test_codes(self) -> None:
         """The errors have the numbers and names of the header, except those that no call of the crate returns."""

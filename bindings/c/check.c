@@ -2,7 +2,8 @@
 ** Makes the calls of vollikash.h on what its standard input asks for, a line a call, and prints what they answer:
 **
 **     check HEX | invert HEX | number_keys HEX | concat HEX HEX | dump HEX | sql HEX      where "-" stands for no bytes
-**     select HEX NAMES | concat_many HEX LENGTHS      NAMES in hexadecimal digits, LENGTHS too, four digits for each
+**     select HEX NAMES | concat_many HEX LENGTHS | group HEX LENGTHS
+**                               NAMES in hexadecimal digits, LENGTHS too, four digits for each
 **     changes HEX               each change and each of its values, by vollikash_next, vollikash_value and
 **                               vollikash_values
 **     ok HEX                    the bytes, or the text, that were made
@@ -10,6 +11,8 @@
 **
 ** Each call is made with no room, with one byte too few, with what it needs and with more, and by several threads at
 ** once; a call that does not answer each time as vollikash.h says ends the program with status 1.
+**
+** Before that it adds a few files of its own to a group, with and without faults, and closes it.
 **
 ** Where it is built with REFUSING, and linked so that calls of malloc, calloc, realloc and free come here, each of a call's
 ** allocations is refused, too, one at a time: the call then answers NO_MEMORY, with nothing written, or what it answered
@@ -22,7 +25,7 @@
 
 #include "vollikash.h"
 
-enum { THREADS = 4, STACK = 128 * 1024, MORE = 7, UNTOUCHED = 0xA5, FILES = 64 };
+enum { THREADS = 4, STACK = 128 * 1024, MORE = 7, UNTOUCHED = 0xA5, FILES = 64, GROUPS = 1000 };
 
 /* Bytes in a block that is just as long. */
 struct bytes {
@@ -218,15 +221,69 @@ static int call_changes(struct bytes file, struct bytes out, size_t *written, st
     return fault->code;
 }
 
+/* The length of the file with a number. */
+static size_t length_at(struct bytes digits, size_t number)
+{
+    return (size_t)(256 * digits.at[2 * number] + digits.at[2 * number + 1]);
+}
+
 static int call_concat_many(struct bytes files, struct bytes digits, struct bytes out, size_t *written,
                             struct vollikash_fault *fault)
 {
     size_t lengths[FILES], count = digits.count / 2;
     require(count <= FILES, "too many files");
     for (size_t i = 0; i < count; i++) {
-        lengths[i] = (size_t)(256 * digits.at[2 * i] + digits.at[2 * i + 1]);
+        lengths[i] = length_at(digits, i);
     }
     return vollikash_concat_many(files.at, files.count, lengths, count, out.at, out.count, written, fault);
+}
+
+/* Adds files to a group, up to the first that is refused, whose number is then in the report. If memory runs out, adds
+** the file again: no more than one allocation is refused.
+*/
+static int add_files(struct vollikash_group *group, struct bytes files, struct bytes digits,
+                     struct vollikash_fault *fault)
+{
+    size_t sum = 0;
+    for (size_t i = 0; i < digits.count / 2; i++) {
+        size_t length = length_at(digits, i);
+        require(length <= files.count - sum, "a length is more than the bytes that are left");
+        int code = vollikash_group_add(group, files.at + sum, length, fault);
+        if (code == VOLLIKASH_NO_MEMORY) {
+            require(fault->code == code && fault->file == 0, "out of memory is reported otherwise");
+            require(vollikash_group_limit(group) == sum, "out of memory changes the limit");
+            code = vollikash_group_add(group, files.at + sum, length, fault);
+            require(code != VOLLIKASH_NO_MEMORY, "memory runs out twice");
+        }
+        require(fault->code == code, "the report has another number than the answer");
+        require(fault->file == (code != VOLLIKASH_OK), "a report has another file");
+        sum += code == VOLLIKASH_OK ? length : 0;
+        require(vollikash_group_limit(group) == sum, "the limit is not the length of the files");
+        if (code != VOLLIKASH_OK) {
+            fault->file *= (int)i + 1;
+            return code;
+        }
+    }
+    return VOLLIKASH_OK;
+}
+
+/* Adds files to a group one by one, makes its file, and closes it twice. */
+static int call_group(struct bytes files, struct bytes digits, struct bytes out, size_t *written,
+                      struct vollikash_fault *fault)
+{
+    struct vollikash_group group = {0};
+    int code = add_files(&group, files, digits, fault);
+    *written = 0;
+    if (code == VOLLIKASH_OK) {
+        size_t limit = vollikash_group_limit(&group);
+        code = vollikash_group_output(&group, out.at, out.count, written, fault);
+        require(*written <= limit, "the file is longer than the limit");
+        require(vollikash_group_limit(&group) == limit, "the limit has changed");
+    }
+    vollikash_group_close(&group);
+    vollikash_group_close(&group);
+    require(group.at == NULL, "a group that is closed is not empty");
+    return code;
 }
 
 static int call(const struct request *request, struct bytes out, size_t *written, struct vollikash_fault *fault)
@@ -247,6 +304,9 @@ static int call(const struct request *request, struct bytes out, size_t *written
     }
     if (strcmp(request->name, "concat_many") == 0) {
         return call_concat_many(first, second, out, written, fault);
+    }
+    if (strcmp(request->name, "group") == 0) {
+        return call_group(first, second, out, written, fault);
     }
     if (strcmp(request->name, "select") == 0) {
         return vollikash_select(first.at, first.count, (const char *)second.at, second.count, out.at, out.count, written,
@@ -474,8 +534,87 @@ static void refuse_each(const struct asked *asked)
 
 #endif
 
+/* INSERT INTO t VALUES('x') and INSERT INTO t VALUES('y'). */
+static const uint8_t x_file[] = {0x54, 1, 1, 't', 0, 0x12, 0, 3, 1, 'x'};
+static const uint8_t y_file[] = {0x54, 1, 1, 't', 0, 0x12, 0, 3, 1, 'y'};
+/* A file that ends too early, and one whose table t has two columns. */
+static const uint8_t short_file[] = {0x54, 1, 1, 't', 0, 0x12, 0, 3, 1};
+static const uint8_t wide_file[] = {0x54, 2, 1, 0, 't', 0, 0x12, 0, 3, 1, 'z', 5};
+
+/* Requires that a group has just these bytes, with too little room, too, and stays. */
+static void require_has(struct vollikash_group *group, const uint8_t *wanted, size_t count)
+{
+    struct vollikash_fault fault;
+    size_t written;
+    struct bytes out = make(count + MORE);
+    if (count > 0) {
+        require(vollikash_group_output(group, out.at, count - 1, &written, &fault) == VOLLIKASH_NO_ROOM,
+                "a group has room where there is none");
+        require(written == count && fault.code == VOLLIKASH_NO_ROOM && fault.file == 0, "a group needs another room");
+        require(is_untouched(out, 0), "a group without room touches a byte");
+    }
+    require(vollikash_group_output(group, out.at, out.count, &written, &fault) == VOLLIKASH_OK,
+            "a group makes no file");
+    require(written == count && fault.code == VOLLIKASH_OK && fault.file == 0, "a group reports something else");
+    require(memcmp(out.at, wanted, count) == 0 && is_untouched(out, count), "a group has other bytes");
+    free(out.at);
+}
+
+/* Requires that a group refuses a file, and stays. */
+static void require_refused(struct vollikash_group *group, const uint8_t *file, size_t length, int code, size_t place)
+{
+    struct vollikash_fault fault;
+    size_t limit = vollikash_group_limit(group);
+    require(vollikash_group_add(group, file, length, &fault) == code, "a group refuses a file for another reason");
+    require(fault.code == code && fault.file == 1 && fault.place == place, "a group reports another fault");
+    require(vollikash_group_limit(group) == limit, "a refused file changes the limit");
+}
+
+static void require_added(struct vollikash_group *group, const uint8_t *file, size_t length)
+{
+    struct vollikash_fault fault;
+    size_t limit = vollikash_group_limit(group);
+    require(vollikash_group_add(group, file, length, &fault) == VOLLIKASH_OK, "a group refuses a file");
+    require(fault.code == VOLLIKASH_OK && fault.file == 0 && fault.place == 0, "a group reports something else");
+    require(vollikash_group_limit(group) == limit + length, "a file does not count");
+}
+
+/* Adds files to a group, and closes it. */
+static void check_group(void)
+{
+    struct vollikash_group group = {0};
+    struct vollikash_fault fault;
+    uint8_t both[sizeof x_file + sizeof y_file];
+    size_t length;
+    require(vollikash_concat(x_file, sizeof x_file, y_file, sizeof y_file, both, sizeof both, &length, &fault) ==
+                VOLLIKASH_OK,
+            "two files are not concatenated");
+    require_has(&group, both, 0);
+    require(vollikash_group_limit(&group) == 0, "an empty group has a limit");
+    vollikash_group_close(&group);
+    require_refused(&group, short_file, sizeof short_file, VOLLIKASH_TRUNCATED, sizeof short_file);
+    require_has(&group, both, 0);
+    require_added(&group, x_file, sizeof x_file);
+    require_has(&group, x_file, sizeof x_file);
+    require_refused(&group, short_file, sizeof short_file, VOLLIKASH_TRUNCATED, sizeof short_file);
+    require_refused(&group, wide_file, sizeof wide_file, VOLLIKASH_SCHEMA, 0);
+    require_has(&group, x_file, sizeof x_file);
+    require_added(&group, y_file, sizeof y_file);
+    require_has(&group, both, length);
+    vollikash_group_close(&group);
+    require(group.at == NULL, "a group that is closed is not empty");
+    vollikash_group_close(&group);
+    require_has(&group, both, 0);
+    require_added(&group, wide_file, sizeof wide_file);
+    require_has(&group, wide_file, sizeof wide_file);
+    vollikash_group_close(&group);
+}
+
 int main(void)
 {
+    for (int i = 0; i < GROUPS; i++) {
+        check_group();
+    }
     char *line = NULL;
     size_t room = 0;
     while (getline(&line, &room, stdin) > 0) {

@@ -8,14 +8,17 @@
 **
 **   * No pointer is NULL, not even with length 0. "" is fine there.
 **   * A pointer to bytes has as many bytes as its length, at most PTRDIFF_MAX.
-**     `written`, `fault`, `place`, `change` and `value` point to one object of their
-**     type. `lengths` and `values` have as many objects as `count` says, at most
+**     `written`, `fault`, `place`, `change`, `value` and `group` point to one object of
+**     their type. `lengths` and `values` have as many objects as `count` says, at most
 **     PTRDIFF_MAX bytes. Each pointer is aligned for its type.
-**   * `out`, `written`, `fault`, `place`, `change` of vollikash_next, `value` and
-**     `values` overlap nothing else. Two files may be the same bytes.
+**   * `out`, `written`, `fault`, `place`, `change` of vollikash_next, `value`, `values`
+**     and `group` overlap nothing else. Two files may be the same bytes.
 **   * While a call runs, nothing else changes what it reads: the files, the names, the
 **     lengths and the change. Nothing else reads or changes what it writes to. This
-**     holds of other threads, signal handlers and processes that share the memory.
+**     holds of other threads, signal handlers and processes that share the memory. So
+**     one call at a time uses a group.
+**   * A group begins as {0}. Only the calls below change it. It may be moved to another
+**     place, but of two copies only one is used after that.
 **   * `out`, `written`, `fault`, `value` and `values` may be uninitialized: no call reads
 **     them. So may the `change` of vollikash_next while `place` is 0. All else is
 **     initialized.
@@ -25,11 +28,14 @@
 **     16 bytes.
 **
 ** The caller owns every buffer and every struct. A call allocates at most some twenty
-** times the bytes of its files and three kilobytes, which bindings/c/memory.c measures,
-** and frees all of it before it returns. vollikash_next, vollikash_value,
-** vollikash_values and vollikash_message allocate nothing. A text is made in memory
-** first, and grows with the length of a table's name times the number of its changes.
-** A call keeps no state, so several threads can call at once.
+** times the bytes of its files and three kilobytes. vollikash_concat_many and a group
+** allocate at most some hundred times the bytes of all files and four kilobytes, and so
+** much only for tables of one change. bindings/c/memory.c measures both. A call frees all
+** of it before it returns, but a group keeps what it has until vollikash_group_close.
+** vollikash_next, vollikash_value, vollikash_values and vollikash_message allocate
+** nothing. A text is made in memory first, and grows with the length of a table's name
+** times the number of its changes. No call keeps other state, so several threads can call
+** at once, each with groups of its own.
 */
 #ifndef VOLLIKASH_H
 #define VOLLIKASH_H
@@ -287,14 +293,60 @@ int vollikash_concat(const uint8_t *first, size_t first_length, const uint8_t *s
 ** 1 to 18 and SCHEMA for the first file at fault, which is in `fault`, counted from
 ** 1; RANGE if a length is more than the bytes that are left, or bytes are left after the
 ** last file; NO_MEMORY, NO_ROOM. Wrong lengths can also look like a damaged file. It
-** takes time in proportion to the number of files times the longest concatenation on the
-** way. For thousands of files that were recorded one after the other, concatenate
-** neighbours first. Of other files that can make another changeset: an INSERT, the same
-** INSERT and its DELETE make none, but the INSERT if the last two come first.
+** takes time in proportion to the bytes of the files, and for each change of a row that
+** an earlier file has changed to both changes. Keys that were chosen to have the same hash
+** take longer.
 */
 int vollikash_concat_many(const uint8_t *files, size_t files_length, const size_t *lengths, size_t count,
                           uint8_t *out, size_t room, size_t *written,
                           struct vollikash_fault *fault) VOLLIKASH_NONNULL;
+
+/*
+** A concatenation to which files are added one by one, as SQLite's sqlite3_changegroup.
+** {0} is one without files:
+**
+**     struct vollikash_group group = {0};
+**     vollikash_group_add(&group, first, first_length, &fault);
+**     vollikash_group_add(&group, second, second_length, &fault);
+**     ..
+**     uint8_t *out = malloc(vollikash_group_limit(&group) + 1);
+**     vollikash_group_output(&group, out, vollikash_group_limit(&group), &written, &fault);
+**     vollikash_group_close(&group);
+**
+** The calls may come in any order, also after vollikash_group_close.
+*/
+struct vollikash_group {
+    void *at; /* what the group has, or NULL; only the calls use it */
+};
+
+/*
+** Adds a file to a group, which then does what it did and then what the file does. The
+** file is copied. Returns OK; 1 to 18 if the file is damaged; SCHEMA if a table has
+** other columns or another key than in the group; or NO_MEMORY. After an error the group
+** does what it did; it has to be closed also then. `fault` has file 1, or 0 for NO_MEMORY,
+** and `place` as above. A call takes time as vollikash_concat_many does for the file, and
+** after NO_MEMORY for all files.
+*/
+int vollikash_group_add(struct vollikash_group *group, const uint8_t *file, size_t length,
+                        struct vollikash_fault *fault) VOLLIKASH_NONNULL;
+
+/*
+** Returns how many bytes of `out` are enough for vollikash_group_output: the sum of the
+** lengths of the files that were added.
+*/
+size_t vollikash_group_limit(const struct vollikash_group *group) VOLLIKASH_NONNULL;
+
+/*
+** Makes the concatenation of the files that were added, in their order. Without a file,
+** and if nothing is left, it has no bytes. More files can be added after that. Errors:
+** NO_MEMORY, NO_ROOM. The file is made also for NO_ROOM. It takes time in proportion to
+** all files that were added.
+*/
+int vollikash_group_output(struct vollikash_group *group, uint8_t *out, size_t room,
+                           size_t *written, struct vollikash_fault *fault) VOLLIKASH_NONNULL;
+
+/* Frees what a group has. After that it is {0}, a group without files. */
+void vollikash_group_close(struct vollikash_group *group) VOLLIKASH_NONNULL;
 
 /*
 ** Makes the file of the tables that are named, in the order of the file. A zero byte is

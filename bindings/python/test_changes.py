@@ -7,6 +7,7 @@ and the model of the tests, and by SQLite's own iterator if its library is there
 usage: bindings/python/test_changes.py
 """
 import collections
+import concurrent.futures
 import copy
 import dataclasses
 import io
@@ -19,7 +20,7 @@ import time
 import unittest
 
 import vollikash
-from vollikash import UNDEFINED, Builder, Change, ChangesetError, Code, JsonError, _merging
+from vollikash import UNDEFINED, Builder, Change, ChangesetError, Code, JsonError, _files
 
 HERE = pathlib.Path(__file__).resolve().parent
 TOP = HERE.parent.parent
@@ -347,20 +348,68 @@ class Files(unittest.TestCase):
         tables = maker.tables()[:2]
         return [reader.write(maker.changeset(tables)) for _ in range(maker.upto(8))]
 
+    def one_by_one(self, files):
+        """Concatenate files one after the other, by the call on two files."""
+        call = _files._library().vollikash_concat
+        call.argtypes = 2 * _files._FILE + _files._OUT + _files._FAULT
+        if len(files) < 2:
+            return vollikash.concat(*files)
+        made = files[0]
+        for index, data in enumerate(files[1:], 1):
+            try:
+                made = _files._made(call, 0, made, len(made), data, len(data))
+            except ChangesetError as error:
+                which = index + 1 if error.which == 2 else 1
+                raise ChangesetError(error.code, which, error.place) from None
+        return made
+
     def test_concatenations(self):
-        """Many files are concatenated as one after the other, and both ways do the same."""
+        """Many files are concatenated as one after the other."""
         maker, made = Maker(random.Random("concat")), 0
         for number in range(MADE):
             files = self.files(maker)
-            wanted = refusal(_merging._one_by_one, files)
+            wanted = refusal(self.one_by_one, files)
             with self.subTest(number):
-                self.assertEqual(refusal(_merging._by_key, files), wanted)
                 self.assertEqual(refusal(vollikash.concat, *files), wanted)
-                for most in (0, 100, 1000):
-                    told = refusal(lambda: _merging._one_by_one(files, most=most))
-                    self.assertEqual(told, wanted)
             made += isinstance(wanted, bytes)
         self.assertGreater(made, MADE // 2)
+
+    def test_groups(self):
+        """Files that are added one by one are concatenated, and one that is refused is not."""
+        maker = Maker(random.Random("group"))
+        for number in range(MADE):
+            files = self.files(maker)
+            group, added = vollikash.Group(), []
+            with self.subTest(number):
+                for data in (*files, b"T"):
+                    wanted = refusal(vollikash.concat, *added, data)
+                    told = refusal(group.add, data)
+                    if isinstance(wanted, bytes):
+                        added.append(data)
+                        self.assertEqual(group.to_bytes(), wanted)
+                    else:
+                        self.assertEqual(told, (wanted[0], 1, wanted[2]))
+                self.assertEqual(group.to_bytes(), vollikash.concat(*added))
+
+    def test_group(self):
+        """A group without files has no bytes, and no group can be copied."""
+        group = vollikash.Group()
+        self.assertEqual(group.to_bytes(), b"")
+        with self.assertRaisesRegex(TypeError, "cannot be copied"):
+            copy.copy(group)
+
+    def test_threads(self):
+        """Threads add files to one group, and ask it for its file."""
+        group, files = vollikash.Group(), [H + stores.insert(key, "x") for key in range(800)]
+
+        def add(file):
+            group.add(file)
+            vollikash.check(group.to_bytes())
+
+        with concurrent.futures.ThreadPoolExecutor(4) as threads:
+            list(threads.map(add, files))
+        made = [tuple(change.new) for change in vollikash.changes(group.to_bytes())]
+        self.assertEqual(sorted(made), [(key, "x") for key in range(800)])
 
     def test_fold(self):
         """Three files are those of the first two and the third."""

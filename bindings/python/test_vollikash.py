@@ -387,8 +387,9 @@ class Many(unittest.TestCase):
         requests, wanted = [], []
         for files in lists:
             lengths = b"".join(len(file).to_bytes(2, "big") for file in files)
-            requests.append(f"concat_many {b''.join(files).hex() or '-'} {lengths.hex() or '-'}")
-            wanted.append(self.one_by_one(files))
+            for call in ("concat_many", "group"):
+                requests.append(f"{call} {b''.join(files).hex() or '-'} {lengths.hex() or '-'}")
+                wanted.append(self.one_by_one(files))
         self.assertEqual(self.answers(requests), wanted)
 
     def one_by_one(self, files):
@@ -559,7 +560,7 @@ class Linked(unittest.TestCase):
     """The libraries have what the header and the module say, and are found."""
 
     def test_exports(self):
-        declared = re.findall(r"^int (vollikash_\w+)\(", HEADER.read_text(), re.M)
+        declared = re.findall(r"^(?:int|size_t|void) (vollikash_\w+)\(", HEADER.read_text(), re.M)
         listed = run("nm", "-D", "--defined-only", BUILT / "libvollikash.so").splitlines()
         self.assertEqual(sorted(line.split()[-1] for line in listed), sorted(declared))
 

@@ -21,9 +21,9 @@ from ._errors import (
     StoreFault, TableExists, TransactionEnded, TransactionOpen, UnknownColumn, Wider, WrongStore,
 )
 from ._explain import explain
-from ._files import check, dump, invert, number_keys, sql
+from ._files import check, concat, dump, invert, number_keys, sql
+from ._group import Group
 from ._json import from_json, read_json, to_json, write_json
-from ._merging import concat
 from ._schema import Schema
 from ._session import Session
 from ._store import Store, open
@@ -34,8 +34,8 @@ from ._values import UNDEFINED, Field, Op, Undefined, Value
 __all__ = [
     "Action", "AlreadyAttached", "BadSchema", "Builder", "Busy", "Cause", "Change",
     "ChangesetError", "Choice", "Code", "Conflict", "ConflictError", "ConflictsDiffer", "Counts",
-    "DamagedStore", "Error", "Field", "FrameTooLong", "Interrupted", "JsonError", "KeyTaken",
-    "Kind", "NoRow", "NoSession", "NoTable", "NoTransaction", "NotNull", "NullInKey", "Op",
+    "DamagedStore", "Error", "Field", "FrameTooLong", "Group", "Interrupted", "JsonError",
+    "KeyTaken", "Kind", "NoRow", "NoSession", "NoTable", "NoTransaction", "NotNull", "NullInKey", "Op",
     "PendingConflict", "ProgramError", "Report", "RowWidth", "Schema", "Session", "SessionOpen",
     "Store", "StoreError", "StoreFault", "TableExists", "TransactionEnded", "TransactionOpen",
     "UNDEFINED", "Undefined", "UndoStack", "UnknownColumn", "Value", "Wider", "WrongStore",

@@ -1,11 +1,20 @@
 """Making changesets."""
-from typing import Dict, Iterable, Optional, Sequence
+from typing import Dict, Iterable, List, Optional, Sequence, Tuple
 
 from ._changes import Change
-from ._encoding import Unfit, flags_of
-from ._files import check
-from ._merging import Group, joined
+from ._encoding import Encoder, Unfit, flags_of, header
+from ._files import concat_all
 from ._values import Field, Op, Value, shown
+
+
+class _Table:
+    """A table that is declared, and how many changes it has."""
+
+    def __init__(self, name: str, flags: bytes) -> None:
+        self.flags = flags
+        self.header = header(name, flags)
+        self.encoder = Encoder(flags)
+        self.count = 0
 
 
 class Builder:
@@ -17,8 +26,9 @@ class Builder:
     """
 
     def __init__(self) -> None:
-        self._groups: Dict[str, Group] = {}
-        self._count = 0
+        self._tables: Dict[str, _Table] = {}
+        # The table of each change, and its bytes.
+        self._changes: List[Tuple[_Table, bytes]] = []
 
     def table(self, name: str, key: Iterable[int]) -> None:
         """Declare a table. `key` has for each column whether it is of the primary key: a bool, or
@@ -31,14 +41,13 @@ class Builder:
         except Unfit as error:
             raise ValueError(f"table {shown(str(name))}: {error}") from None
 
-    def _declare(self, name: str, flags: bytes) -> Group:
-        """Return the group of a table with these flags."""
-        group = self._groups.get(name)
-        if group is None:
-            group = self._groups[name] = Group(name, flags)
-        elif list(map(bool, group.flags)) != list(map(bool, flags)):
+    def _declare(self, name: str, flags: bytes) -> None:
+        """Declare a table with these flags."""
+        table = self._tables.get(name)
+        if table is None:
+            self._tables[name] = _Table(name, flags)
+        elif list(map(bool, table.flags)) != list(map(bool, flags)):
             raise Unfit("it is declared with other columns or another key")
-        return group
 
     def insert(self, table: str, *values: Value, indirect: bool = False) -> None:
         """Add the INSERT of a row, with a value for each column."""
@@ -60,36 +69,34 @@ class Builder:
 
     def add(self, change: Change) -> None:
         """Add a change. A table that is not declared yet is declared by it."""
-        group = self._groups.get(change.table)
-        if group is None or group.flags != change.flags:
+        table = self._tables.get(change.table)
+        if table is None or table.flags != change.flags:
             self.table(change.table, change.flags)
         self._add(change.table, change.op, change.indirect, change.old, change.new)
 
     def _add(
         self,
-        table: str,
+        name: str,
         op: Op,
         indirect: bool,
         old: Optional[Sequence[Field]],
         new: Optional[Sequence[Field]],
     ) -> None:
         """Add a change of a table that is declared."""
-        group = self._groups.get(table)
-        if group is None:
-            raise ValueError(f"table {shown(str(table))} is not declared")
+        table = self._tables.get(name)
+        if table is None:
+            raise ValueError(f"table {shown(str(name))} is not declared")
         try:
-            key, entry = group.encoder.entry(op, indirect, old, new)
+            _, entry = table.encoder.entry(op, indirect, old, new)
         except Unfit as error:
-            where = f"table {shown(table)}, change {group.count + 1} ({str(op).upper()})"
+            where = f"table {shown(name)}, change {table.count + 1} ({str(op).upper()})"
             raise ValueError(f"{where}, {error}") from None
-        group.add(self._count, key, entry)
-        self._count += 1
+        self._changes.append((table, entry))
+        table.count += 1
 
     def to_bytes(self) -> bytes:
-        """Return the file of the changes that were added. The library has checked it.
+        """Return the file of the changes that were added.
 
         More changes can be added after that.
         """
-        data = joined(self._groups.values(), lambda place: place)
-        check(data)
-        return data
+        return concat_all([table.header + entry for table, entry in self._changes])

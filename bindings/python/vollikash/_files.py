@@ -2,13 +2,13 @@
 
 The library is next to this file if it is installed, or where the repository builds it, or where the
 system keeps its libraries. The environment variable VOLLIKASH_LIBRARY names another one. The first
-call loads it. No call keeps state, and several threads can call at once.
+call loads it. Only a group keeps state. Several threads can call at once, but one at a time on a group.
 """
 import ctypes
 import functools
 import os
 import pathlib
-from typing import Callable, NoReturn, Union
+from typing import Callable, NoReturn, Sequence, Union
 
 from ._errors import ChangesetError, Code
 
@@ -22,6 +22,7 @@ class _Fault(ctypes.Structure):
 
 
 _FILE = (ctypes.c_char_p, ctypes.c_size_t)
+_LENGTHS = (ctypes.POINTER(ctypes.c_size_t), ctypes.c_size_t)
 _OUT = (ctypes.c_char_p, ctypes.c_size_t, ctypes.POINTER(ctypes.c_size_t))
 _FAULT = (ctypes.POINTER(_Fault),)
 
@@ -53,12 +54,33 @@ def _library() -> ctypes.CDLL:
     library = ctypes.CDLL(os.environ.get("VOLLIKASH_LIBRARY") or _find())
     library.vollikash_version.argtypes = ()
     library.vollikash_check.argtypes = _FILE + _FAULT
-    library.vollikash_concat.argtypes = _FILE + _FILE + _OUT + _FAULT
+    library.vollikash_concat_many.argtypes = _FILE + _LENGTHS + _OUT + _FAULT
     for name in ("invert", "number_keys", "dump", "sql"):
         getattr(library, f"vollikash_{name}").argtypes = _FILE + _OUT + _FAULT
-    for name in ("version", "check", "concat", "invert", "number_keys", "dump", "sql"):
+    for name in ("version", "check", "concat_many", "invert", "number_keys", "dump", "sql"):
         getattr(library, f"vollikash_{name}").restype = ctypes.c_int
+    held = (ctypes.c_void_p,)
+    library.vollikash_group_add.argtypes = held + _FILE + _FAULT
+    library.vollikash_group_limit.argtypes = library.vollikash_group_close.argtypes = held
+    library.vollikash_group_limit.restype = ctypes.c_size_t
+    library.vollikash_group_close.restype = None
+    library.vollikash_group_output.argtypes = held + _OUT + _FAULT
     return library
+
+
+class Held(ctypes.Structure):
+    """What the library keeps of the files that were added: `struct vollikash_group`."""
+
+    _fields_ = [("at", ctypes.c_void_p)]
+
+    # As the interpreter ends, the names of this module may be gone.
+    def __del__(
+        self,
+        library: Callable[[], ctypes.CDLL] = _library,
+        byref: Callable[..., object] = ctypes.byref,
+    ) -> None:
+        if self.at:
+            library().vollikash_group_close(byref(self))
 
 
 def as_bytes(file: Bytes) -> bytes:
@@ -73,11 +95,10 @@ def _raise(fault: _Fault) -> NoReturn:
     raise ChangesetError(Code(fault.code), fault.file, fault.place)
 
 
-def _made(call: Callable[..., int], room: int, *files: bytes) -> bytes:
-    """Return what a call makes of files, in a buffer of this length, or of the one that it asks
-    for.
+def _made(call: Callable[..., int], room: int, *given: object) -> bytes:
+    """Return what a call makes of its arguments, in a buffer of this length, or of the one that it
+    asks for.
     """
-    given = [argument for file in files for argument in (file, len(file))]
     while True:
         out: bytes = _new_bytes(None, room)
         written, fault = ctypes.c_size_t(), _Fault()
@@ -99,7 +120,7 @@ def check(file: Bytes) -> None:
 def invert(file: Bytes) -> bytes:
     """Return the file of the inverse changeset. Raises `ChangesetError`."""
     file = as_bytes(file)
-    return _made(_library().vollikash_invert, len(file), file)
+    return _made(_library().vollikash_invert, len(file), file, len(file))
 
 
 def number_keys(file: Bytes) -> bytes:
@@ -109,23 +130,46 @@ def number_keys(file: Bytes) -> bytes:
     Do not call it on a file that SQLite recorded. Raises `ChangesetError`.
     """
     file = as_bytes(file)
-    return _made(_library().vollikash_number_keys, len(file), file)
+    return _made(_library().vollikash_number_keys, len(file), file, len(file))
 
 
-def concat_two(first: bytes, second: bytes) -> bytes:
-    """Return the file that does what the first does, and then what the second does. Raises
-    `ChangesetError`.
+def concat_all(files: Sequence[bytes]) -> bytes:
+    """Return the file that does what the files do, one after the other. Raises `ChangesetError`."""
+    joined, count = b"".join(files), len(files)
+    lengths = (ctypes.c_size_t * count)(*map(len, files))
+    call = _library().vollikash_concat_many
+    return _made(call, len(joined), joined, len(joined), lengths, count)
+
+
+def concat(*files: Bytes) -> bytes:
+    """Return the file that does what the files do, one after the other.
+
+    No file makes an empty changeset. Raises `ChangesetError`.
     """
-    return _made(_library().vollikash_concat, len(first) + len(second), first, second)
+    return concat_all([as_bytes(file) for file in files])
+
+
+def add_file(held: Held, file: bytes) -> None:
+    """Add a file to those of a group. Raises `ChangesetError`."""
+    fault = _Fault()
+    add = _library().vollikash_group_add
+    if add(ctypes.byref(held), file, len(file), ctypes.byref(fault)) != Code.OK:
+        _raise(fault)
+
+
+def file_of(held: Held) -> bytes:
+    """Return the file of the concatenation of the files of a group."""
+    given = ctypes.byref(held)
+    return _made(_library().vollikash_group_output, _library().vollikash_group_limit(given), given)
 
 
 def dump(file: Bytes) -> str:
     """Return a line for each table and each change. Raises `ChangesetError`."""
     file = as_bytes(file)
-    return _made(_library().vollikash_dump, 8 * len(file) + 256, file).decode()
+    return _made(_library().vollikash_dump, 8 * len(file) + 256, file, len(file)).decode()
 
 
 def sql(file: Bytes) -> str:
     """Return a readable SQL statement for each change. Raises `ChangesetError`."""
     file = as_bytes(file)
-    return _made(_library().vollikash_sql, 8 * len(file) + 256, file).decode()
+    return _made(_library().vollikash_sql, 8 * len(file) + 256, file, len(file)).decode()

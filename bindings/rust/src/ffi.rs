@@ -4,7 +4,8 @@
 //! aligned, has at most `isize::MAX` bytes and is changed by nobody else, and a `&mut` overlaps
 //! nothing else. A `SAFETY` comment names what else a call asks. A `char` of the header is a `u8` here.
 
-use std::os::raw::c_int;
+use std::os::raw::{c_int, c_void};
+use std::ptr;
 
 /// The version of the header.
 const VERSION: c_int = 1_000_000;
@@ -67,6 +68,12 @@ pub(crate) struct Field {
     pub(crate) length: usize,
 }
 
+/// A concatenation to which files are added, or NULL for one without files: `struct vollikash_group`.
+#[repr(C)]
+pub(crate) struct Group {
+    at: *mut c_void,
+}
+
 extern "C" {
     fn vollikash_version() -> c_int;
     fn vollikash_message(code: c_int, out: *mut u8, room: usize, written: *mut usize) -> c_int;
@@ -94,6 +101,21 @@ extern "C" {
         values: *mut Field,
         count: usize,
     ) -> c_int;
+    fn vollikash_group_add(
+        group: *mut Group,
+        file: *const u8,
+        length: usize,
+        fault: *mut Fault,
+    ) -> c_int;
+    fn vollikash_group_limit(group: *const Group) -> usize;
+    fn vollikash_group_output(
+        group: *mut Group,
+        out: *mut u8,
+        room: usize,
+        written: *mut usize,
+        fault: *mut Fault,
+    ) -> c_int;
+    fn vollikash_group_close(group: *mut Group);
 }
 
 /// Returns the version of the library.
@@ -195,6 +217,60 @@ makes! {
     concat = vollikash_concat(first: u8, second: u8);
     concat_many = vollikash_concat_many(files: u8, lengths: usize);
     select = vollikash_select(file: u8, names: u8);
+}
+
+impl Default for Group {
+    fn default() -> Self {
+        Self {
+            at: ptr::null_mut(),
+        }
+    }
+}
+
+impl Group {
+    /// Adds a file. After an error the group has what it had.
+    pub(crate) fn add(&mut self, file: &[u8]) -> Result<(), Fault> {
+        expect_version();
+        let mut fault = Fault::default();
+        // SAFETY: `file` has as many bytes as its length says. The group is as a call left it, or
+        // NULL: nothing else changes its private field, and it is not copied.
+        match unsafe { vollikash_group_add(self, file.as_ptr(), file.len(), &mut fault) } {
+            OK => Ok(()),
+            _ => Err(fault),
+        }
+    }
+
+    /// Returns how many bytes are enough for the file of the group.
+    pub(crate) fn limit(&mut self) -> usize {
+        // SAFETY: the group is as a call left it, or NULL.
+        unsafe { vollikash_group_limit(self) }
+    }
+
+    /// Puts the file of the group into an empty buffer, within its capacity.
+    pub(crate) fn output(&mut self, out: &mut Vec<u8>) -> Made {
+        assert!(out.is_empty(), "the buffer is not empty");
+        let (room, at) = (out.capacity(), out.as_mut_ptr());
+        let (mut written, mut fault) = (0, Fault::default());
+        // SAFETY: the group is as a call left it, or NULL. `out` has room for as many bytes as its
+        // capacity says. They may be uninitialized.
+        match unsafe { vollikash_group_output(self, at, room, &mut written, &mut fault) } {
+            OK => {
+                assert!(written <= room, "the library wrote {written} bytes");
+                // SAFETY: the call has written that many bytes, and there is room for them.
+                unsafe { out.set_len(written) };
+                Made::Done
+            }
+            NO_ROOM => Made::NoRoom(written),
+            _ => Made::Refused(fault),
+        }
+    }
+}
+
+impl Drop for Group {
+    fn drop(&mut self) {
+        // SAFETY: the group is as a call left it, or NULL, and is not used after that.
+        unsafe { vollikash_group_close(self) }
+    }
 }
 
 /// A place in a file, from which the next change is read.
@@ -333,6 +409,7 @@ mod tests {
             name, name_length, flags, columns, records, records_length, operation, indirect
         ));
         facts.extend(layout!("vollikash_field", Field: kind, integer, offset, length));
+        facts.extend(layout!("vollikash_group", Group: at));
         facts.push(format!("VOLLIKASH_MESSAGE_ROOM == {MESSAGE_ROOM}"));
         facts.push(format!("VOLLIKASH_VERSION == {VERSION}"));
         facts

@@ -56,10 +56,8 @@ pub fn concat(first: &[u8], second: &[u8]) -> Result<Vec<u8>, Error> {
 
 /// Returns the concatenation of many files, in their order. Without a file it has no bytes.
 ///
-/// It takes time in proportion to the number of files times the longest concatenation on the way.
-/// For thousands of files that were recorded one after the other, concatenate neighbours first. Of
-/// other files that can make another changeset: an INSERT, the same INSERT and its DELETE make none,
-/// but the INSERT if the last two come first.
+/// It takes time in proportion to the bytes of the files, and for each change of a row that an
+/// earlier file has changed to both changes.
 ///
 /// # Errors
 ///
@@ -142,7 +140,10 @@ fn make_text(file: &[u8], call: fn(&[u8], &mut Vec<u8>) -> Made) -> Result<Strin
 }
 
 /// Returns what a call makes in a buffer with this room, or with the room that it asks for.
-fn make(room: usize, call: impl Fn(&mut Vec<u8>) -> Made) -> Result<Vec<u8>, Error> {
+pub(crate) fn make(
+    room: usize,
+    mut call: impl FnMut(&mut Vec<u8>) -> Made,
+) -> Result<Vec<u8>, Error> {
     let mut out = with_room(room)?;
     let mut made = call(&mut out);
     if let Made::NoRoom(needed) = made {

@@ -22,9 +22,10 @@
 //! # }
 //! ```
 //!
-//! No call keeps state: several threads can call at once. A call needs 128 KiB of stack, and at most
-//! some twenty times the bytes of its files. Make none in a signal handler, or in the child of a fork
-//! of a process with threads. A call panics if the library has another version than the crate.
+//! Only a [`Changegroup`] keeps state: several threads can call at once. A call needs 128 KiB of
+//! stack, and at most some twenty times the bytes of its files, of [`concat_many()`] and of a
+//! [`Changegroup`] a hundred times. Make none in a signal handler, or in the child of a fork of a
+//! process with threads. A call panics if the library has another version than the crate.
 #![deny(missing_docs)]
 #![deny(unsafe_code)]
 #![warn(unsafe_op_in_unsafe_fn)]
@@ -34,10 +35,12 @@ mod error;
 #[allow(unsafe_code)]
 mod ffi;
 mod files;
+mod group;
 
 pub use changes::{changes, Change, Changes, Operation, Value};
 pub use error::{Code, Error};
 pub use files::{check, concat, concat_many, dump, invert, number_keys, select, sql};
+pub use group::Changegroup;
 
 /// Returns the version of the library: a million times the major number, a thousand times the minor
 /// number, and the patch.

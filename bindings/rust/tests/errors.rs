@@ -4,7 +4,8 @@ mod common;
 
 use common::{INSERT, UPDATE};
 use vollikash::{
-    changes, check, concat, concat_many, dump, invert, number_keys, select, sql, Code, Error,
+    changes, check, concat, concat_many, dump, invert, number_keys, select, sql, Changegroup, Code,
+    Error,
 };
 
 /// A file for each fault of a file, and the byte offset of the fault.
@@ -71,6 +72,7 @@ fn each_call_refuses_a_file() {
         assert_fault(concat(file, file), code, 1, place);
         assert_fault(concat(INSERT, file), code, 2, place);
         assert_fault(concat_many([INSERT, UPDATE, file, file]), code, 3, place);
+        assert_fault(Changegroup::new().add(file), code, 1, place);
     }
 }
 
@@ -97,6 +99,14 @@ fn other_columns_and_keys_are_refused() {
             (Some(2), Some(index))
         );
         assert_eq!(error.offset(), None);
+        let mut group = Changegroup::new();
+        group.add(INSERT).unwrap();
+        let error = group.add(second).unwrap_err();
+        assert_eq!(
+            (error.code(), error.which_file(), error.table_index()),
+            (Code::Schema, Some(1), Some(index))
+        );
+        assert_eq!(group.to_bytes().unwrap(), INSERT);
         let error = concat_many([INSERT, UPDATE, second]).unwrap_err();
         assert_eq!(
             (error.which_file(), error.table_index()),

@@ -3,7 +3,9 @@
 mod common;
 
 use common::{header, record, DELETE, INSERT, THREE_TABLES, UPDATE};
-use vollikash::{check, concat, concat_many, dump, invert, number_keys, select, sql, Error, Value};
+use vollikash::{
+    check, concat, concat_many, dump, invert, number_keys, select, sql, Changegroup, Error, Value,
+};
 
 #[test]
 fn version_is_that_of_the_crate() {
@@ -75,6 +77,21 @@ fn concatenates_many() -> Result<(), Error> {
     assert_eq!(concat_many(&files)?, INSERT);
     assert_eq!(concat_many(files.iter().take(1))?, INSERT);
     assert_eq!(concat_many(vec![INSERT; 100])?, INSERT);
+    Ok(())
+}
+
+#[test]
+fn adds_files_to_a_group() -> Result<(), Error> {
+    let mut group = Changegroup::new();
+    assert_eq!(group.to_bytes()?, b"");
+    let mut joined = Vec::new();
+    for file in [INSERT, b"", UPDATE, DELETE, THREE_TABLES, INSERT] {
+        joined = concat(&joined, file)?;
+        group.add(file)?;
+        assert_eq!(group.to_bytes()?, joined);
+        assert!(group.add(&INSERT[1..]).is_err());
+        assert_eq!(group.to_bytes()?, joined);
+    }
     Ok(())
 }
 

@@ -1,4 +1,4 @@
--- Numbers that are found by chains of their indices. No public contract names this but for the list of numbers.
+-- Numbers that are found by chains of their indices.
 use Rattle.std.specs.Prelude.{◌≡◌, ◌≢◌, ℕ, ◌+◌, ◌<◌, ◌≤◌, ◌%◌, List, length, get_or}
 
 -- the numbers, index by index, and how many buckets they are in

@@ -1,4 +1,4 @@
--- Numbers by which texts are distinguished. No public contract names this.
+-- Numbers by which texts are distinguished.
 use Rattle.std.specs.Prelude.{ℕ, ◌+◌, ◌*◌, ◌%◌, ◌^◌, List, drop, get_or}
 use Rattle.std.specs.List.{fold}
 use Rattle.cs_wire.specs.Seen.{word_of}

@@ -13,10 +13,10 @@ struct Link {
     before: usize,
 }
 
-/// A list of numbers. Each is in a bucket, and the indices of a bucket are a chain, from the last to the first.
-/// Contracts see the count of buckets and the numbers.
+/// A list of numbers, in which the indices of a number are found. Each number is in a bucket, and the indices of a bucket
+/// are a chain, from the last to the first. Contracts see the count of buckets and the numbers.
 #[derive(Debug, Drop)]
-pub(crate) struct NumberChains {
+pub struct NumberChains {
     // For each bucket, one more than its last index, or 0 if it has none.
     ends: Vec<usize>,
     links: Vec<Link>,
@@ -36,7 +36,7 @@ impl Model for NumberChains {
 
 impl NumberChains {
     /// Returns an empty list, with room for some numbers.
-    pub(crate) fn with_capacity(alloc: Global, capacity: usize) -> Result<NumberChains, NoMemory>
+    pub fn with_capacity(alloc: Global, capacity: usize) -> Result<NumberChains, NoMemory>
         ensures { IfOk result (λ chains. chains.numbers ≡ []) }
     {
         Ok(NumberChains {
@@ -46,14 +46,14 @@ impl NumberChains {
     }
 
     /// Returns the count of numbers.
-    pub(crate) fn len(&self) -> usize
+    pub fn len(&self) -> usize
         ensures { result ≡ length self.now.numbers }
     {
         self.links.len()
     }
 
     /// Returns the number at a zero-based index, which is below [`NumberChains::len`].
-    pub(crate) fn number(&self, index: usize) -> u64
+    pub fn number(&self, index: usize) -> u64
         requires { index < length self.now.numbers }
         ensures { result ≡ get_or self.now.numbers index 0 }
     {
@@ -61,14 +61,14 @@ impl NumberChains {
     }
 
     /// Returns one more than the last index of the bucket of a number, or 0 if it has none.
-    pub(crate) fn end(&self, number: u64) -> usize
+    pub fn end(&self, number: u64) -> usize
         ensures { IsEnd self.now (bucket_of self.now number) (length self.now.numbers) result }
     {
         self.ends[bucket(number, self.ends.len())]
     }
 
     /// Returns one more than the previous index of the bucket of an index, or 0 if it has none.
-    pub(crate) fn before(&self, index: usize) -> usize
+    pub fn before(&self, index: usize) -> usize
         requires { index < length self.now.numbers }
         ensures { IsEnd self.now (bucket_at self.now index) index result }
     {
@@ -76,7 +76,7 @@ impl NumberChains {
     }
 
     /// Appends a number. [`NoMemory`] leaves the list unchanged.
-    pub(crate) fn push(&mut self, number: u64) -> Result<(), NoMemory>
+    pub fn push(&mut self, number: u64) -> Result<(), NoMemory>
         ensures ok { OnOk result (self.new ≡ record {
           buckets = self.old.buckets;
           numbers = self.old.numbers

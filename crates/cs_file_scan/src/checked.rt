@@ -257,7 +257,7 @@ fn pass_entry<V: Visit>(
 }
 
 /// Returns the part of a file between two byte offsets, or nothing if they are not in order or not in the file.
-pub(crate) fn part(file: &[u8], start: usize, end: usize) -> &[u8]
+pub fn part(file: &[u8], start: usize, end: usize) -> &[u8]
     ensures { (bytes : List ℕ) → Stands file.now start bytes end → start ≤ length file.now → result.now ≡ bytes }
 {
     if start <= end && end <= file.len() {

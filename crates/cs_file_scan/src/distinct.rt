@@ -8,11 +8,11 @@ use cs_wire::word_of;
 /// The multiplier of each step: 2 to the 64 divided by the golden ratio.
 const FACTOR: u64 = 0x9E37_79B9_7F4A_7C15;
 
-/// Returns the number of a text. Texts with different numbers differ. Two texts have the same number only by a rare
-/// chance, or where someone searched for them. The numbers of one-integer keys rise with the integer, from -2 to the 62
-/// up to 2 to the 62.
+/// Returns the number of a text, for [`NumberChains`](crate::NumberChains). Texts with different numbers differ. Two
+/// texts have the same number only by a rare chance, or where someone searched for them. The numbers of one-integer
+/// keys rise with the integer, from -2 to the 62 up to 2 to the 62.
 #[tactic(auto, using(std::proofs::lemmas::List::Sums::fold_more), unfolding(crate::specs::Distinct::number_of))]
-pub(crate) fn number_of(text: &[u8]) -> u64
+pub fn number_of(text: &[u8]) -> u64
     ensures { result ≡ distinct.number_of text.now }
 {
     let mut number = with_more(u64::from(first_byte(text)), word_of(text));

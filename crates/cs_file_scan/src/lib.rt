@@ -30,6 +30,9 @@ mod named;
 mod tables;
 mod visit;
 
+pub use chains::NumberChains;
+pub use checked::part;
+pub use distinct::number_of;
 pub use keyed::{FoundEntry, KeyedEntries};
 pub use named::NamedTables;
 pub use tables::Tables;

@@ -59,6 +59,7 @@ impl<'a> NamedTables<'a> {
     /// memory runs out.
     pub fn read(alloc: Global, file: &'a [u8]) -> Result<NamedTables<'a>, ReadError>
         ensures found { IfOk result (IsListing file.now) }
+        ensures file { IfOk result (λ named. named.file ≡ file.now) }
         ensures refused { IfErr result (Refuses (λ f. ReadFails file.now f.kind f.place)) }
     {
         if let Some(named) = NamedTables::read_quickly(alloc, file)? {
@@ -69,7 +70,8 @@ impl<'a> NamedTables<'a> {
 
     /// Lists the tables of a file, or returns None if the quick check fails.
     fn read_quickly(alloc: Global, file: &'a [u8]) -> Result<Option<NamedTables<'a>>, NoMemory>
-        ensures { IfOk result (λ named. IfSome named (IsListing file.now)) }
+        ensures found { IfOk result (λ named. IfSome named (IsListing file.now)) }
+        ensures file { IfOk result (λ named. IfSome named (λ n. n.file ≡ file.now)) }
     {
         let mut named = NamedTables::new(alloc, file);
         let mut keys = Vec::new(alloc);
@@ -90,8 +92,9 @@ impl<'a> NamedTables<'a> {
 
     /// Lists the remaining tables of a file that was read. Remaining entries of the open table are skipped.
     fn list(alloc: Global, tables: Tables<'a>) -> Result<NamedTables<'a>, NoMemory>
-        ensures { (entries : List EntryData) (groups : List GroupData) → EntriesLeft tables.entry entries groups
+        ensures listed { (entries : List EntryData) (groups : List GroupData) → EntriesLeft tables.entry entries groups
             → IfOk result (λ named. AreListed named groups) }
+        ensures file { IfOk result (λ named. named.file ≡ tables.entry.file) }
     {
         let mut named = NamedTables::new(alloc, tables.file());
         let mut left = tables;

@@ -139,8 +139,8 @@ impl<'a> Tables<'a> {
         count
     }
 
-    /// Returns the byte offset.
-    pub(crate) fn place(&self) -> usize
+    /// Returns the byte offset after the header or entry that was returned last.
+    pub fn place(&self) -> usize
         ensures { result ≡ self.now.place }
     {
         self.place

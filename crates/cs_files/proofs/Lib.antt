@@ -1,4 +1,3 @@
-pub mod ChainLemmas
 pub mod Examples
 pub mod InvertLemmas
 pub mod JoiningLemmas

@@ -1,7 +1,6 @@
--- What names and lengths say of buffers.
+-- What names say of buffers.
 use Rattle.std.proofs.Common.{◌≡◌, [], ◌∷◌, true, false, refl}
 use Rattle.cs_files.specs.Selecting.{is_among, names_in}
-use Rattle.cs_files.specs.Chaining.{files_in}
 
 -- a and b, and nothing after the last zero byte
 two_names : names_in (97 ∷ 0 ∷ 98 ∷ 0 ∷ []) ≡ (97 ∷ []) ∷ (98 ∷ []) ∷ [] ∷ []
@@ -12,7 +11,3 @@ b_alone_is_named :
     × (is_among (97 ∷ 0 ∷ 98 ∷ []) (99 ∷ []) ≡ false)
 unfolding is_among
 b_alone_is_named = (refl, refl)
-
--- three bytes are a file of two bytes, one of none and one of one
-three_files : files_in (7 ∷ 8 ∷ 9 ∷ []) (2 ∷ 0 ∷ 1 ∷ []) ≡ (7 ∷ 8 ∷ []) ∷ [] ∷ (9 ∷ []) ∷ []
-three_files = refl

@@ -3,7 +3,6 @@ pub mod Faults
 pub mod Writing
 pub mod Printing
 pub mod Selecting
-pub mod Chaining
 pub use Rattle.cs_file_texts.specs.Calls
 pub use Rattle.cs_file_texts.specs.Told
 pub use Rattle.cs_file_texts.specs.Gathering

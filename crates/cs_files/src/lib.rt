@@ -9,14 +9,13 @@
 //! ```
 //!
 //! `files` has the calls on files. `inverting` writes an inverse, `joining` a concatenation, and `numbering` a file
-//! whose key columns are numbered. `selecting` keeps the tables that are named, and `chaining` concatenates many files:
-//! names and files come in one buffer each, since a list of slices does not cross to C. `fault` has the faults.
+//! whose key columns are numbered. `selecting` keeps the tables that are named: the names come in one buffer, since a
+//! list of slices does not cross to C. `fault` has the faults.
 //!
 //! The names of `cs_file_texts` are passed on: the texts of changesets, the streams that they are written to, and the
 //! pieces of lines.
 #![tactic(auto)]
 
-mod chaining;
 mod fault;
 mod files;
 mod inverting;
@@ -24,7 +23,6 @@ mod joining;
 mod numbering;
 mod selecting;
 
-pub use chaining::{ChainError, concat_all_bytes};
 pub use cs_file_texts::{
     Gather, OutputFault, Piece, Told, add_pieces, dump_text, sql_text, write_whole,
 };

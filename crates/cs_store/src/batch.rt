@@ -14,7 +14,7 @@ ghost use Rattle.cs_store_tables.specs.Store.{AddsTable, Ends, IsInside, KeepsSt
 use crate::store::Store;
 use cs_rows::{Rows, Schema, StoreError};
 use cs_store_sql::transactions;
-use cs_store_tables::{commit, refused};
+use cs_store_tables::commit_with;
 use cs_value::{Key, Row};
 use sqlite::{Alter, Connection};
 use std::alloc::Global;
@@ -79,8 +79,7 @@ impl<S: Alter> SqlBatch<'_, S> {
             (λ left. left ≡ tables_in (state S.Store self.entry.store.now).committed) (state S.Store self.exit.0.now)) }
     {
         let SqlBatch { store } = self;
-        store.known = None;
-        commit(&mut store.conn)
+        commit_with(&mut store.conn, &mut store.known)
     }
 }
 

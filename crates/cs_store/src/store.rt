@@ -26,8 +26,8 @@ ghost use Rattle.cs_store.specs.Transacts.{Transacts};
 use crate::batch::SqlBatch;
 use cs_rows::{Edit, Schema, StoreError, Written, edit_in};
 use cs_store_adoption::adopt;
-use cs_store_sql::{RecordsError, transactions};
-use cs_store_tables::{KnownTable, list_page, refused};
+use cs_store_sql::RecordsError;
+use cs_store_tables::{KnownTable, begin_with, list_page, refused};
 use cs_value::{Key, Row, is_table_name};
 use sqlite::{Alter, Connection, MemStore};
 use std::alloc::Global;
@@ -210,10 +210,9 @@ impl<S: Alter> Store<S> {
         ensures leaves { IfOk result (λ b. LeavesOnly
             (λ left. left ≡ tables_in (state S.Store self.old).now) (state S.Store b.store.now)) }
     {
-        self.known = None;
-        match transactions::begin(&mut self.conn) {
+        match begin_with(&mut self.conn, &mut self.known) {
             Ok(()) => Ok(SqlBatch { store: self }),
-            Err(error) => Err(refused(error)),
+            Err(error) => Err(error),
         }
     }
 

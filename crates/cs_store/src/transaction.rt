@@ -25,7 +25,7 @@ ghost use Rattle.cs_store.specs.Within.{EndsCall, HasBefore, Within};
 use crate::store::Store;
 use cs_rows::{Edit, Rows, Schema, StoreError, Written, edit_in};
 use cs_store_sql::transactions;
-use cs_store_tables::{commit, count_rows, refused};
+use cs_store_tables::{begin_with, commit_with, count_rows};
 use cs_value::{Key, Row, is_table_name};
 use sqlite::{Alter, Connection};
 use std::alloc::Global;
@@ -74,10 +74,9 @@ impl<S: Alter + Drop> Store<S> {
         ensures keeps_crash { IfErr result (λ e. KeepsCrash (state S.Store self) (state S.Store e.1)) }
     {
         let mut store = self;
-        store.known = None;
-        match transactions::begin(&mut store.conn) {
+        match begin_with(&mut store.conn, &mut store.known) {
             Ok(()) => Ok(Transaction { store }),
-            Err(error) => Err((refused(error), store)),
+            Err(error) => Err((error, store)),
         }
     }
 }
@@ -117,8 +116,7 @@ impl<S: Alter + Drop> Transaction<S> {
             → IsCaused (CommitFails (state S.Store self) (state S.Store e.1)) e.0) }
     {
         let Transaction { mut store } = self;
-        store.known = None;
-        match commit(&mut store.conn) {
+        match commit_with(&mut store.conn, &mut store.known) {
             Ok(()) => Ok(store),
             Err(error) => Err((error, store)),
         }

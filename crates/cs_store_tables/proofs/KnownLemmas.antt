@@ -8,8 +8,6 @@ use Rattle.cs_rows.specs.Rows.{Adds}
 use Rattle.cs_rows.proofs.WrittenRows.{same_schemas}
 use Rattle.sqlite.specs.Effect.{Database}
 use Rattle.sqlite.specs.State.{State as Connection, HasCleanDisk}
-use Rattle.cs_store_sql.specs.declared.records.Place.{Place}
-use Rattle.cs_store_sql.specs.Records.{IsPlaced}
 use Rattle.cs_store_tables.specs.Store.{IsKnown, KnownData, Knows, tables_in, without_key}
 
 -- a table that is known is so after its rows were written, but for the key
@@ -22,8 +20,8 @@ knows_written old new (Some k) table rows was declared wrote knows clean = at (g
     at None none is = absurd (true≢false (sym is))
     at (Some found) is some = record { schema = ap (λ (s : State). schema_at s k.0) (wrote clean) ∙ same_schemas (tables_in old.now) table found rows is k.0 ∙ (knows (was clean)).schema; placed = tt }
 
--- and after a row was added, or one had its key
-knows_still : (old new : Connection) (known : Option KnownData) → (HasCleanDisk new → HasCleanDisk old) → (HasCleanDisk new → tables_in new.now ≡ tables_in old.now) → Knows old known → Knows new (without_key known)
+-- and after a row was added, or one had its key, and where a transaction begins or is committed
+pub knows_still : (old new : Connection) (known : Option KnownData) → (HasCleanDisk new → HasCleanDisk old) → (HasCleanDisk new → tables_in new.now ≡ tables_in old.now) → Knows old known → Knows new (without_key known)
 knows_still old new None was same knows clean = tt
 knows_still old new (Some k) was same knows clean = record { schema = ap (λ (s : State). schema_at s k.0) (same clean) ∙ (knows (was clean)).schema; placed = tt }
 

@@ -148,6 +148,16 @@ back_store old new db shown holds others was = record {
   others = λ k. subst₂ KeepsOthers (sym shown.committed_is) (sym shown.now_is) others;
 }
 
+-- a transaction that begins keeps a store one, and so does one that does not begin
+pub begun_sound : (old new : State) → KeepsCrash old new → (HasCleanDisk new → Shows old new old.now old.committed true) → IsSound old → IsSound new
+begun_sound old new crash shown sound clean =
+    let was = sound (was_clean old new crash clean) in
+    let is = shown clean in
+    back_store old new old.now is (was.now is.was_open) (was.others is.was_open) was
+
+pub content_sound : (old new : State) → KeepsCrash old new → (HasCleanDisk new → KeepsContent old new) → IsSound old → IsSound new
+content_sound old new crash kept sound clean = content_store old new (kept clean) (sound (was_clean old new crash clean))
+
 -- so a store that is marked, or whose mark is dropped, stays one, whatever the call answers
 pub marked_sound : {X E : Type 0} (result : Result X E) (old new : State) → KeepsCrash old new → (HasCleanDisk new → OnOk result (Shows old new old.now old.committed true)) → (HasCleanDisk new → OnErr result (IsUndone old new))
     → IsSound old → IsSound new

@@ -1,25 +1,30 @@
-//! What is read and written through a store. The table that was looked up last is known: inside a transaction, where
-//! nobody else writes, its schema is not read again. So are, until the next write, the key that was looked up last and
-//! where its row is: a row that is put or removed there is not looked for again.
-ghost use Rattle.std.specs.Prelude.{◌≡◌, ◌⊎◌, ◌<◌, ◌^◌, true, IsTrue, IfOk, IfErr, OnOk, IfSome, None, Some, length, option_map};
+//! What is read and written through a store. The table that was looked up last is known: inside a transaction its schema
+//! is not read again. It stays known when a transaction begins and when it is committed, and is forgotten when a call
+//! fails. The key that was looked up last and where its row is are known until the next write or the end of the
+//! transaction: a row that is put or removed there is not looked for again.
+ghost use Rattle.std.specs.Prelude.{◌≡◌, ◌⊎◌, ◌<◌, ◌^◌, true, false, IsTrue, IfOk, IfErr, OnOk, OnErr, IfSome, None, Some};
+ghost use Rattle.std.specs.Prelude.{length, option_map};
 ghost use Rattle.std.specs.FinMap as map;
 ghost use Rattle.cs_value.specs.Table.{IsName};
 ghost use Rattle.cs_value.specs.State.{schema_at, row_at, rows_at, with_row, without_row};
 ghost use Rattle.cs_rows.specs.declared.fault.StoreError.TheVariants.{TableExists as TakenName};
 ghost use Rattle.cs_rows.specs.Faults.{IsCaused, IsResource, IsReadRefusal, is_answered};
 ghost use Rattle.cs_rows.specs.Rows.{Adds, IsDeclared, Fits, puts_row, removes_row};
-ghost use Rattle.cs_store_tables.specs.Failing.{BatchFails, IsDeclarationOf, LeadsOn, PutFails, ReadFails, RemoveFails, Writes};
+ghost use Rattle.cs_store_tables.specs.Failing.{BatchFails, BeginFails, CommitFails, IsDeclarationOf, LeadsOn};
+ghost use Rattle.cs_store_tables.specs.Failing.{PutFails, ReadFails, RemoveFails, Writes};
 ghost use Rattle.cs_store_tables.specs.Pages.{page_in};
-ghost use Rattle.cs_store_tables.specs.Store.{AddsTable, IsKnown, IsSound, KeepsStore, Knows, RefusesShut};
+ghost use Rattle.cs_store_tables.specs.Store.{AddsTable, Begins, IsKnown, IsSound, KeepsStore, Knows, RefusesShut};
 ghost use Rattle.cs_store_tables.specs.Store.{tables_in, without_key};
-ghost use Rattle.sqlite.specs.State.{HasCleanDisk, IsUnchanged};
+ghost use Rattle.sqlite.specs.State.{HasCleanDisk, IsUnchanged, Shows, Survives};
 ghost use Rattle.sqlite.specs.Effect.{Database};
-ghost use Rattle.cs_store_sql.specs.Records.{IsPlaced, Rests};
+ghost use Rattle.cs_store_sql.specs.Records.{IsPlaced, IsUndone, KeepsContent, KeepsCrash, Rests};
 ghost use Rattle.sqlite.specs.Held.{state};
 
+use crate::ending::commit;
+use crate::refusal::refused;
 use crate::tables;
 use cs_rows::{Cause, Schema, StoreError};
-use cs_store_sql::Place;
+use cs_store_sql::{Place, transactions};
 use cs_value::{Key, Row};
 use sqlite::{Alter, Connection};
 use std::alloc::Global;
@@ -455,6 +460,69 @@ fn put_table<S: Alter>(
         return Err(StoreError::StoreFault(Cause::Other));
     }
     tables::put_table(conn, alloc, name, schema)
+}
+
+/// Begins a transaction of a store. The known table stays known. It is refused if a transaction is open.
+pub fn begin_with<S: Alter>(
+    conn: &mut Connection<S>,
+    known: &mut Option<KnownTable>,
+) -> Result<(), StoreError>
+    requires sound { IsSound (state S.Store conn.old) }
+    requires knows { Knows (state S.Store conn.old) known.old }
+    ensures begun { HasCleanDisk (state S.Store conn.new)
+        → OnOk result (Begins (state S.Store conn.old) (state S.Store conn.new)) }
+    ensures refused { IfErr result IsResource }
+    ensures caused { HasCleanDisk (state S.Store conn.new)
+        → IfErr result (IsCaused (BeginFails (state S.Store conn.old) (state S.Store conn.new))) }
+    ensures kept { HasCleanDisk (state S.Store conn.new)
+        → OnErr result (KeepsContent (state S.Store conn.old) (state S.Store conn.new)) }
+    ensures sound { IsSound (state S.Store conn.new) }
+    ensures knows { Knows (state S.Store conn.new) known.new }
+    ensures survives { KeepsCrash (state S.Store conn.old) (state S.Store conn.new) }
+{
+    match transactions::begin(conn) {
+        Ok(()) => {
+            forget_key(known);
+            Ok(())
+        }
+        Err(error) => {
+            *known = None;
+            Err(refused(error))
+        }
+    }
+}
+
+/// Commits the transaction of a store, as [`commit`] does. The known table stays known.
+pub fn commit_with<S: Alter>(
+    conn: &mut Connection<S>,
+    known: &mut Option<KnownTable>,
+) -> Result<(), StoreError>
+    requires sound { IsSound (state S.Store conn.old) }
+    requires knows { Knows (state S.Store conn.old) known.old }
+    ensures committed { HasCleanDisk (state S.Store conn.new)
+        → OnOk result (IsTrue (state S.Store conn.old).in_transaction
+        × Shows (state S.Store conn.old) (state S.Store conn.new)
+        (state S.Store conn.old).now (state S.Store conn.old).now false) }
+    ensures refused { IfErr result IsResource }
+    ensures caused { HasCleanDisk (state S.Store conn.new)
+        → IfErr result (IsCaused (CommitFails (state S.Store conn.old) (state S.Store conn.new))) }
+    ensures undone { HasCleanDisk (state S.Store conn.new)
+        → OnErr result (IsUndone (state S.Store conn.old) (state S.Store conn.new)) }
+    ensures sound { IsSound (state S.Store conn.new) }
+    ensures knows { Knows (state S.Store conn.new) known.new }
+    ensures survives { Survives (state S.Store conn.old) (state S.Store conn.new)
+        (λ db. (db ≡ (state S.Store conn.old).now.trees) × IsTrue (state S.Store conn.old).in_transaction) }
+{
+    match commit(conn) {
+        Ok(()) => {
+            forget_key(known);
+            Ok(())
+        }
+        Err(error) => {
+            *known = None;
+            Err(error)
+        }
+    }
 }
 
 /// Makes the table of this name the known one, and none where no table has the name.

@@ -1,8 +1,9 @@
 //! Vollikash for C, and for every language that calls C: the calls that take and make bytes.
 //!
 //! `bindings/c/vollikash.h` declares each export and says what C has to keep to. A slice crosses as a
-//! pointer and a length, and the allocator, which has no bytes, is no parameter in C. No call keeps
-//! anything: what it makes goes into the caller's buffer, and what it took is freed when it returns.
+//! pointer and a length, and the allocator, which has no bytes, is no parameter in C. Only a `Group`
+//! keeps anything, until it is closed. What another call makes goes into the caller's buffer, and
+//! what it took is freed when it returns.
 //!
 //! Where the buffer is too small nothing is written to it, and `written` has the length that is
 //! needed. `answer` has what is answered and reported.
@@ -15,6 +16,7 @@ ghost use Rattle.cs_files.specs.Texts.{dump_of, sql_of};
 ghost use Rattle.vollikash.specs.Answers.{Gives, Lacks, ReportsFault, IsMadeCode, IsRefusal, no_fault};
 
 mod answer;
+mod group;
 mod iterator;
 mod many;
 mod message;
@@ -23,6 +25,10 @@ pub use answer::{DONE, FaultReport, NO_ROOM, OK, RANGE};
 use answer::{hand_out, report, report_plain};
 use cs_file_scan::Tables;
 use cs_files::{concat_bytes, dump_file, first_fault, invert_bytes, number_keys_bytes, sql_file};
+pub use group::{
+    Group, vollikash_group_add, vollikash_group_close, vollikash_group_limit,
+    vollikash_group_output,
+};
 pub use iterator::{vollikash_next, vollikash_value, vollikash_values};
 pub use many::{vollikash_concat_many, vollikash_select};
 pub use message::vollikash_message;

@@ -1,13 +1,14 @@
 //! The tables of a file that are named, and many files.
 ghost use Rattle.std.specs.Prelude.{◌≡◌, ◌≢◌, ◌≤◌, length};
 ghost use Rattle.cs_files.specs.Files.{FirstFails};
-ghost use Rattle.cs_files.specs.Chaining.{AreLengths, ChainFails, Chains, files_in};
+ghost use Rattle.cs_changegroup.specs.Chaining.{AreLengths, ChainFails, Chains, files_in};
 ghost use Rattle.cs_files.specs.Selecting.{Selects};
 ghost use Rattle.vollikash.specs.declared.answer.TheConstants.{OK, NO_ROOM};
 ghost use Rattle.vollikash.specs.Answers.{Gives, Lacks, ReportsFault, ReportsFileFault, IsMadeCode, IsRefusal, file_number, no_fault};
 
 use crate::answer::{FaultReport, RANGE, hand_out, report, report_plain};
-use cs_files::{ChainError, ToolFault, concat_all_bytes, first_fault, select_bytes};
+use cs_changegroup::{ChainError, concat_all_bytes};
+use cs_files::{ToolFault, first_fault, select_bytes};
 use std::alloc::Global;
 
 /// Puts the file of the tables that are named into `out`, and its length, which is at most that of the file, into

@@ -2,8 +2,7 @@
 import argparse
 
 from .._errors import ChangesetError
-from .._files import invert as inverted, number_keys as numbered
-from .._merging import concat as concatenated
+from .._files import concat as concatenated, invert as inverted, number_keys as numbered
 from .._tables import select as selected, stat
 from .._values import shown
 from ._messages import Failure, of_changeset

@@ -25,5 +25,5 @@ tables-preserved c =
       rw c.in-Some.is at read.no_key,
     )
 
-pub returns : goal.returns
-returns c = CheckedFront-all c.args.file.now c.tables.named c.tables.place c.tables.invariant.0 c.tables.invariant.1 c.tables-test.false
+pub returns-clause-found : goal.returns-clause-found
+returns-clause-found c = CheckedFront-all c.args.file.now c.tables.named c.tables.place c.tables.invariant.0 c.tables.invariant.1 c.tables-test.false

@@ -1,0 +1,9 @@
+pub mod ChainLemmas
+pub mod OneByOneLemmas
+pub mod FoldLemmas
+pub mod GrowthLemmas
+pub mod LivingLemmas
+pub mod EntryLemmas
+pub mod SlotLemmas
+pub mod TableLemmas
+pub mod Examples

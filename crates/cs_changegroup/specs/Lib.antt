@@ -1,0 +1,9 @@
+pub mod Slots
+pub mod Adding
+pub mod Chaining
+pub mod Folding
+pub use Rattle.cs_files.specs.Files
+pub use Rattle.cs_files.specs.Faults
+pub use Rattle.cs_group.specs.Joining
+pub use Rattle.cs_wire.specs.Changeset
+pub use Rattle.cs_wire.specs.ReadFaults

@@ -1,0 +1,23 @@
+-- What C's group owns.
+use Rattle.std.specs.Prelude.{Option, Some, None}
+use base.Fml.{Fml, feq}
+use denote.RawPtr.{Ptr, null_ptr}
+use mir.Syntax.{Ty}
+use Rattle.std.specs.declared.alloc.Global.{Global}
+use Rattle.std.specs.contracts.impls.GlobalAllocator.TheImpl.{ghosts}
+use Rattle.std_alloc.specs.Box.Ownership.{box_owns}
+use Rattle.cs_changegroup.specs.Folding.{ChangegroupView}
+use Rattle.cs_changegroup.specs.contracts.changegroup.Changegroup.{the_row}
+
+-- the allocator, which has no bytes
+abbrev pub heap : Global
+heap = record { memory = record { seal = tt } }
+
+-- the right to free what it allocated at a place
+abbrev pub chunk : Ty → Ptr → Fml
+chunk = ghosts.dealloc_token heap
+
+-- the concatenation at p, and the right to free it; or nothing, and p is null
+abbrev pub group_at : Option ChangegroupView → Ptr → Fml
+group_at (Some view) p = box_owns chunk the_row p view
+group_at None p = feq Ptr p null_ptr
