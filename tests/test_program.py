@@ -5,6 +5,7 @@ What the program has to print is written out here, by the documents. Python's ow
 reads the stores (`support/stores.py`). `recorded/` has files that SQLite's session extension
 recorded. The program has to be built first.
 """
+import contextlib
 import json
 import os
 import pathlib
@@ -917,12 +918,12 @@ class Terminals(StoreTest):
             timeout=PATIENCE, check=False,
         )
         self.assertEqual(ran.returncode, 0)
-        os.set_blocking(main, False)
-        try:
-            shown = os.read(main, 1 << 16)
-        except BlockingIOError:
-            shown = b""
         os.close(terminal)
+        shown = b""
+        # What was written arrives later, so it is read up to the end: EIO, since the terminal is closed.
+        with contextlib.suppress(OSError):
+            while data := os.read(main, 1 << 16):
+                shown += data
         os.close(main)
         return ran.stdout.decode(), shown.decode()
 

@@ -1,5 +1,5 @@
 pub mod Examples
-pub mod GroupGlue
-pub mod GroupParts
-pub mod GroupSteps
+pub mod HandleGlue
+pub mod HandleParts
+pub mod HandleSteps
 pub mod MessageLemmas

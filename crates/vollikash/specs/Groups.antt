@@ -4,15 +4,16 @@ use Rattle.cs_wire.specs.Changeset.{GroupData, IsFileOf}
 use Rattle.cs_files.specs.declared.fault.FileFault.{FileFault}
 use Rattle.cs_group.specs.Joining.{AreJoinable, joined}
 use Rattle.cs_changegroup.specs.Adding.{AddFails}
-use Rattle.cs_changegroup.specs.Folding.{ChangegroupView, Holds}
+use Rattle.cs_changegroup.specs.Folding.{Holds}
+use Rattle.vollikash.specs.declared.held.Held.{Held}
 
 -- the groups that a group has: none if it is null
-abbrev pub GroupHas : Option ChangegroupView → List GroupData → Type 0
+abbrev pub GroupHas : Option Held → List GroupData → Type 0
 GroupHas None groups = groups ≡ []
-GroupHas (Some view) groups = Holds view groups
+GroupHas (Some held) groups = Holds held.group groups
 
 -- the group has what these groups make together with the file
-pub record AddsTo (groups : List GroupData) (file : List ℕ) (value : Option ChangegroupView) : Type 0 where
+pub record AddsTo (groups : List GroupData) (file : List ℕ) (value : Option Held) : Type 0 where
   pub others : List GroupData
   pub is_file : IsFileOf file others
   pub joinable : AreJoinable groups others
@@ -23,6 +24,6 @@ abbrev pub AddFailsAt : List GroupData → List ℕ → ℕ → FileFault → Ty
 AddFailsAt groups file index fault = (index ≡ 0) × AddFails groups file fault
 
 -- the number of bytes of the files that were added
-abbrev pub limit_of : Option ChangegroupView → ℕ
+abbrev pub limit_of : Option Held → ℕ
 limit_of None = 0
-limit_of (Some view) = length view.files
+limit_of (Some held) = length held.group.files

@@ -1,4 +1,4 @@
--- What C's group owns.
+-- What C's handle owns.
 use Rattle.std.specs.Prelude.{Option, Some, None}
 use base.Fml.{Fml, feq}
 use denote.RawPtr.{Ptr, null_ptr}
@@ -6,8 +6,8 @@ use mir.Syntax.{Ty}
 use Rattle.std.specs.declared.alloc.Global.{Global}
 use Rattle.std.specs.contracts.impls.GlobalAllocator.TheImpl.{ghosts}
 use Rattle.std_alloc.specs.Box.Ownership.{box_owns}
-use Rattle.cs_changegroup.specs.Folding.{ChangegroupView}
-use Rattle.cs_changegroup.specs.contracts.changegroup.Changegroup.{the_row}
+use Rattle.vollikash.specs.declared.held.Held.{Held}
+use Rattle.vollikash.specs.contracts.held.Held.{the_row}
 
 -- the allocator, which has no bytes
 abbrev pub heap : Global
@@ -17,7 +17,7 @@ heap = record { memory = record { seal = tt } }
 abbrev pub chunk : Ty → Ptr → Fml
 chunk = ghosts.dealloc_token heap
 
--- the concatenation at p, and the right to free it; or nothing, and p is null
-abbrev pub group_at : Option ChangegroupView → Ptr → Fml
-group_at (Some view) p = box_owns chunk the_row p view
-group_at None p = feq Ptr p null_ptr
+-- what is held at p, and the right to free it; or nothing, and p is null
+abbrev pub held_at : Option Held → Ptr → Fml
+held_at (Some held) p = box_owns chunk the_row p held
+held_at None p = feq Ptr p null_ptr

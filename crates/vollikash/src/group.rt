@@ -9,13 +9,11 @@ ghost use Rattle.vollikash.specs.Answers.{Gives, Lacks, ReportsFileFault, IsMade
 ghost use Rattle.vollikash.specs.Groups.{AddFailsAt, AddsTo, GroupHas, limit_of};
 ghost use Rattle.vollikash.specs.declared.answer.TheConstants.{NO_ROOM};
 
-mod handle;
-mod lent;
-
 use crate::answer::{FaultReport, OK, hand_out, report, report_plain};
+use crate::handle::Handle;
+use crate::held::Held;
 use cs_changegroup::Changegroup;
 use cs_files::ToolFault;
-pub use handle::Group;
 use std::alloc::Global;
 use std::mem::replace;
 
@@ -26,7 +24,7 @@ use std::mem::replace;
 #[unsafe(no_mangle)]
 pub extern "C" fn vollikash_group_add(
     alloc: Global,
-    group: &mut Group,
+    group: &mut Handle,
     file: &[u8],
     fault: &mut FaultReport,
 ) -> i32
@@ -50,14 +48,14 @@ pub extern "C" fn vollikash_group_add(
 
 /// Returns how many bytes are enough for the file of a group: those of the files that were added.
 #[unsafe(no_mangle)]
-pub extern "C" fn vollikash_group_limit(group: &mut Group) -> usize
+pub extern "C" fn vollikash_group_limit(group: &mut Handle) -> usize
     ensures limit { result ≡ limit_of group.old.value }
     ensures same { group.new ≡ group.old }
 {
     if group.is_null() {
         return 0;
     }
-    group.as_mut().limit()
+    group.as_mut().group.limit()
 }
 
 /// Puts the file of the concatenation of the files that were added into `out`, and its length, which is at most
@@ -67,7 +65,7 @@ pub extern "C" fn vollikash_group_limit(group: &mut Group) -> usize
 #[unsafe(no_mangle)]
 pub extern "C" fn vollikash_group_output(
     alloc: Global,
-    group: &mut Group,
+    group: &mut Handle,
     out: &mut [u8],
     written: &mut usize,
     fault: &mut FaultReport,
@@ -90,16 +88,16 @@ pub extern "C" fn vollikash_group_output(
 
 /// Frees a group, which then has no files, and can be used anew.
 #[unsafe(no_mangle)]
-pub extern "C" fn vollikash_group_close(alloc: Global, group: &mut Group)
+pub extern "C" fn vollikash_group_close(alloc: Global, group: &mut Handle)
     ensures { group.new.value ≡ None }
 {
     if !group.is_null() {
-        drop(replace(group, Group::none()).into_box(alloc));
+        drop(replace(group, Handle::none()).into_box(alloc));
     }
 }
 
 /// Adds a file to a group. A refusal leaves what the group has.
-fn add(alloc: Global, group: &mut Group, file: &[u8]) -> Result<(), ToolFault>
+fn add(alloc: Global, group: &mut Handle, file: &[u8]) -> Result<(), ToolFault>
     ensures added { (groups : List GroupData) → GroupHas group.old.value groups
         → OnOk result (AddsTo groups file.now group.new.value) }
     ensures refused { (groups : List GroupData) → GroupHas group.old.value groups
@@ -110,16 +108,19 @@ fn add(alloc: Global, group: &mut Group, file: &[u8]) -> Result<(), ToolFault>
     ensures same_limit { OnErr result (limit_of group.new.value ≡ limit_of group.old.value) }
 {
     if group.is_null() {
-        match Box::new(alloc, Changegroup::new(alloc)) {
-            Ok(held) => *group = Group::of(held),
+        let held = Held {
+            group: Changegroup::new(alloc),
+        };
+        match Box::new(alloc, held) {
+            Ok(held) => *group = Handle::of(held),
             Err(_) => return Err(ToolFault::NoMemory),
         }
     }
-    group.as_mut().add(alloc, file)
+    group.as_mut().group.add(alloc, file)
 }
 
 /// Returns the file of the concatenation of the files that were added to a group.
-fn bytes_of(alloc: Global, group: &mut Group) -> Result<Vec<u8>, ToolFault>
+fn bytes_of(alloc: Global, group: &mut Handle) -> Result<Vec<u8>, ToolFault>
     ensures file { (groups : List GroupData) → GroupHas group.old.value groups
         → IfOk result (λ out. out.items ≡ file_bytes groups) }
     ensures length { (groups : List GroupData) → GroupHas group.old.value groups
@@ -131,7 +132,7 @@ fn bytes_of(alloc: Global, group: &mut Group) -> Result<Vec<u8>, ToolFault>
     if group.is_null() {
         return Ok(Vec::new(alloc));
     }
-    match group.as_mut().to_bytes(alloc) {
+    match group.as_mut().group.to_bytes(alloc) {
         Ok(bytes) => Ok(bytes),
         Err(_) => Err(ToolFault::NoMemory),
     }

@@ -17,6 +17,8 @@ ghost use Rattle.vollikash.specs.Answers.{Gives, Lacks, ReportsFault, IsMadeCode
 
 mod answer;
 mod group;
+mod handle;
+mod held;
 mod iterator;
 mod many;
 mod message;
@@ -26,9 +28,9 @@ use answer::{hand_out, report, report_plain};
 use cs_file_scan::Tables;
 use cs_files::{concat_bytes, dump_file, first_fault, invert_bytes, number_keys_bytes, sql_file};
 pub use group::{
-    Group, vollikash_group_add, vollikash_group_close, vollikash_group_limit,
-    vollikash_group_output,
+    vollikash_group_add, vollikash_group_close, vollikash_group_limit, vollikash_group_output,
 };
+pub use handle::Handle;
 pub use iterator::{vollikash_next, vollikash_value, vollikash_values};
 pub use many::{vollikash_concat_many, vollikash_select};
 pub use message::vollikash_message;

@@ -1,4 +1,4 @@
--- What the walks cite, and the row of a `ChangegroupView`'s box as a call of a generic function passes it.
+-- What the walks cite, and the row of a `Held`'s box as a call of a generic function passes it.
 pub use Rattle.std.proofs.Common.{◌≡◌, ℕ, ℤ, List, [], ◌∷◌, ◌++◌, ◌&&◌, true, refl, sym, ap, subst, ◌∙◌, w8, w32, lit<, T as T'}
 pub use mir.Syntax.{named, ty_ptr}
 pub use mir.Val.{Val, vunit, vint, vptr, has_ty, WT}
@@ -40,17 +40,17 @@ pub use Rattle.std.proofs.raw_atomic.Walks.{proved, proved_at, leaves}
 pub use Rattle.std.specs.contracts.alloc.Global.{the_row as A₀}
 pub use Rattle.std.specs.contracts.impls.GlobalAllocator.TheImpl.{ghosts, dict}
 pub use Rattle.std_alloc.proofs.BoxSteps.Steps.{box_out, box_in}
-pub use Rattle.vollikash.specs.Owned.{chunk, group_at, heap}
+pub use Rattle.vollikash.specs.Owned.{chunk, held_at, heap}
 pub use mir.Raw.{raw as bare}
-pub use Rattle.cs_changegroup.specs.Folding.{ChangegroupView}
-pub use Rattle.cs_changegroup.specs.contracts.changegroup.Changegroup.{the_row as T₀}
+pub use Rattle.vollikash.specs.declared.held.Held.{Held}
+pub use Rattle.vollikash.specs.contracts.held.Held.{the_row as T₀}
 use mir.Syntax.{Dict, impl, tnil, tcons, dnil}
 pub use denote.Param.{layout}
 use denote.Param.{arg}
 use denote.Param.Laws.{Laws, arg_laws}
 use Rattle.std.proofs.alloc.Global.TheLaws as global
 use Rattle.std_alloc.proofs.BoxSteps.Form as box
-use Rattle.cs_changegroup.proofs.changegroup.Changegroup.TheLaws as held
+use Rattle.vollikash.proofs.held.Held.TheLaws as held
 
 abbrev pub T : RattleType
 T = arg (bare (layout T₀)) no T₀

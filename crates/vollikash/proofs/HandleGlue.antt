@@ -1,5 +1,5 @@
--- How a `ChangegroupView` is dropped, as a call of a generic function passes it.
-use Rattle.vollikash.proofs.GroupSteps.{[], ◌∷◌, refl, T, T-laws}
+-- How a `Held` is dropped, as a call of a generic function passes it.
+use Rattle.vollikash.proofs.HandleSteps.{[], ◌∷◌, refl, T, T-laws}
 use seplogic.Ra.Ura.{Ura}
 use mir.Syntax.{Dict, Callee, impl, tnil, dnil, method}
 use types.Logic.{Logic}
@@ -16,21 +16,21 @@ use borrow.Fn.Impl.{via_longer, method_Known}
 use borrow.Fn.Kinds.{ended_of, stays, r_unit}
 use borrow.Fn.Run.{Over}
 use borrow.Fn.World.{World}
-use Rattle.vollikash.proofs.cs_changegroup++changegroup++Changegroup+Destruct.drop.Kinds as kinds
-use Rattle.vollikash.proofs.cs_changegroup++changegroup++Changegroup+Destruct.drop.Reads as reads
-use Rattle.vollikash.proofs.cs_changegroup++changegroup++Changegroup+Destruct.drop.Symbol as symbol
-use Rattle.vollikash.proofs.cs_changegroup++changegroup++Changegroup+Destruct.drop.Met as dropped
+use Rattle.vollikash.proofs.vollikash++held++Held+Destruct.drop.Kinds as kinds
+use Rattle.vollikash.proofs.vollikash++held++Held+Destruct.drop.Reads as reads
+use Rattle.vollikash.proofs.vollikash++held++Held+Destruct.drop.Symbol as symbol
+use Rattle.vollikash.proofs.vollikash++held++Held+Destruct.drop.Met as dropped
 
-abbrev pub view_drops : Dict
-view_drops = impl ("vollikash::cs_changegroup++changegroup++Changegroup+Destruct::drop" ∷ []) tnil dnil
+abbrev pub held_drops : Dict
+held_drops = impl ("vollikash::vollikash++held++Held+Destruct::drop" ∷ []) tnil dnil
 
 abbrev key : Callee
-key = method view_drops 0 (layouts [] tt)
+key = method held_drops 0 (layouts [] tt)
 
-pub view_glue : {M : Type 1} (𝓤 : Ura M) (𝓛 : Logic 𝓤) (𝓜 : Model 𝓤 𝓛.H) (𝓡 : Running 𝓤 𝓛.H 𝓜) → Wired 𝓡.env symbol.code → Met 𝓛 𝓜 𝓡 𝓡.env T view_drops
-view_glue {M = M} 𝓤 𝓛 𝓜 𝓡 w =
+pub held_glue : {M : Type 1} (𝓤 : Ura M) (𝓛 : Logic 𝓤) (𝓜 : Model 𝓤 𝓛.H) (𝓡 : Running 𝓤 𝓛.H 𝓜) → Wired 𝓡.env symbol.code → Met 𝓛 𝓜 𝓡 𝓡.env T held_drops
+held_glue {M = M} 𝓤 𝓛 𝓜 𝓡 w =
     let W : World = record { M = M; 𝓤 = 𝓤; 𝓛 = 𝓛; 𝓜 = 𝓜; 𝓡 = 𝓡 } in
-    glue_by T T-laws W view_drops 𝓡.env
+    glue_by T T-laws W held_drops 𝓡.env
     (λ κs a. Lasts (ended_of 0 kinds.ps kinds.r) tt a) (λ κs a. lasts (ended_of 0 kinds.ps kinds.r) tt a)
     (λ κs a x ws. Fit (ended_of 0 kinds.ps kinds.r) (stays kinds.ps) tt a ws × reads.Learnt tt a x (at_exit (ended_of 0 kinds.ps kinds.r) tt a ws))
     (λ κs a. AllWithin 1 (κs.0, tt) (T.lives, tt) × Unit {0}) 0 tt (λ κs a h. ((h, tt), tt))
