@@ -1,27 +1,29 @@
 /*
 ** Vollikash checks, iterates over, inverts, concatenates, selects, numbers and prints
-** changesets, the files of SQLite's session extension. No call needs SQLite or a
-** database.
+** changesets, the files of SQLite's session extension. It keeps stores in memory, which
+** apply, record and undo changesets. No call needs SQLite.
 **
 ** For every input it is proved that a call returns, and what it answers, if the caller
 ** keeps to the rules below. docs/PROMISES.md, "Calls for C", has the few exceptions.
 **
 **   * No pointer is NULL, not even with length 0. "" is fine there.
 **   * A pointer to bytes has as many bytes as its length, at most PTRDIFF_MAX.
-**     `written`, `fault`, `place`, `change`, `value` and `group` point to one object of
-**     their type. `lengths` and `values` have as many objects as `count` says, at most
-**     PTRDIFF_MAX bytes. Each pointer is aligned for its type.
-**   * `out`, `written`, `fault`, `place`, `change` of vollikash_next, `value`, `values`
-**     and `group` overlap nothing else. Two files may be the same bytes.
+**     `written`, `answered`, `fault`, `place`, `change`, `value`, `group` and `store`
+**     point to one object of their type. `lengths` and `values` have as many objects as
+**     `count` says, at most PTRDIFF_MAX bytes. Each pointer is aligned for its type.
+**   * `out`, `written`, `answered`, `fault`, `place`, `change` of vollikash_next,
+**     `value`, `values`, `group` and `store` overlap nothing else. Two files may be the
+**     same bytes.
 **   * While a call runs, nothing else changes what it reads: the files, the names, the
 **     lengths and the change. Nothing else reads or changes what it writes to. This
 **     holds of other threads, signal handlers and processes that share the memory. So
-**     one call at a time uses a group.
-**   * A group begins as {0}. Only the calls below change it. It may be moved to another
-**     place, but of two copies only one is used after that.
-**   * `out`, `written`, `fault`, `value` and `values` may be uninitialized: no call reads
-**     them. So may the `change` of vollikash_next while `place` is 0. All else is
-**     initialized.
+**     one call at a time uses a group or a store.
+**   * A group and a store begin as {0}. Only the calls below change them. They may be
+**     moved to another place, but of two copies only one is used after that. Only the
+**     thread that opened a store uses it.
+**   * `out`, `written`, `answered`, `fault`, `value` and `values` may be uninitialized: no
+**     call reads them. So may the `change` of vollikash_next while `place` is 0. All else
+**     is initialized.
 **   * No call is made in a signal handler, or in the child of a fork of a process
 **     with threads. The stack has 128 KiB left.
 **   * malloc, realloc and free belong to one allocator, whose blocks are aligned to
@@ -31,11 +33,12 @@
 ** times the bytes of its files and three kilobytes. vollikash_concat_many and a group
 ** allocate at most some hundred times the bytes of all files and four kilobytes, and so
 ** much only for tables of one change. bindings/c/memory.c measures both. A call frees all
-** of it before it returns, but a group keeps what it has until vollikash_group_close.
+** of it before it returns, but a group keeps what it has until vollikash_group_close, and
+** a store until vollikash_store_close. What a store takes is in docs/PERFORMANCE.md.
 ** vollikash_next, vollikash_value, vollikash_values and vollikash_message allocate
 ** nothing. A text is made in memory first, and grows with the length of a table's name
 ** times the number of its changes. No call keeps other state, so several threads can call
-** at once, each with groups of its own.
+** at once, each with groups and stores of its own.
 */
 #ifndef VOLLIKASH_H
 #define VOLLIKASH_H
@@ -87,17 +90,22 @@ enum vollikash_code {
     VOLLIKASH_NULL_KEY = 17,        /* a key column is NULL */
     VOLLIKASH_DUPLICATE_KEY = 18,   /* a key is in a table twice */
 
+    VOLLIKASH_DAMAGED_STORE = 37,   /* the file is a database that is no store */
+    VOLLIKASH_STORE_FAULT = 38,     /* the file is no database, or the database refuses */
+
     VOLLIKASH_SCHEMA = 43,    /* a table has other columns or another key than in an earlier file */
     VOLLIKASH_NO_MEMORY = 60, /* memory ran out */
     VOLLIKASH_NO_ROOM = 80,   /* `out` is too small, and `written` has the length; or `values` is */
     VOLLIKASH_DONE = 81,      /* no change is left */
-    VOLLIKASH_RANGE = 82      /* a column, a side, a length or a number is out of range */
+    VOLLIKASH_RANGE = 82,     /* a column, a side, a length or a number is out of range */
+    VOLLIKASH_NOT_OPEN = 83,  /* the store is not open */
+    VOLLIKASH_TRANSACTION_OPEN = 95 /* a transaction of the store is open */
 };
 
 /*
 ** SQLite's result code for a number above, without sqlite3.h: SQLITE_OK,
 ** SQLITE_CORRUPT, SQLITE_SCHEMA, SQLITE_NOMEM, SQLITE_TOOBIG, SQLITE_DONE,
-** SQLITE_RANGE, and SQLITE_ERROR for other numbers.
+** SQLITE_RANGE, SQLITE_MISUSE, and SQLITE_ERROR for other numbers.
 */
 static inline int vollikash_class(int code)
 {
@@ -117,6 +125,10 @@ static inline int vollikash_class(int code)
         return 101;
     case VOLLIKASH_RANGE:
         return 25;
+    case VOLLIKASH_DAMAGED_STORE:
+        return 11;
+    case VOLLIKASH_NOT_OPEN:
+        return 21;
     default:
         return 1;
     }
@@ -372,6 +384,64 @@ int vollikash_dump(const uint8_t *file, size_t length, uint8_t *out, size_t room
 */
 int vollikash_sql(const uint8_t *file, size_t length, uint8_t *out, size_t room, size_t *written,
                   struct vollikash_fault *fault) VOLLIKASH_NONNULL;
+
+/*
+** A store in memory: its tables are read and changed by the calls of docs/CALLS.md, each
+** without its frame. {0} is one that is not open:
+**
+**     struct vollikash_store store = {0};
+**     vollikash_store_open(&store, file, length, &fault);
+**     vollikash_store_call(&store, call, call_length, &answered);
+**     uint8_t *answer = malloc(answered + 1);
+**     vollikash_store_answer(&store, answer, answered, &written);
+**     ..
+**     vollikash_store_close(&store);
+**
+** A call on one that is not open returns NOT_OPEN, but for vollikash_store_close. Nothing
+** is kept after the program, but for the bytes that vollikash_store_save makes.
+*/
+struct vollikash_store {
+    void *at; /* what the store has, or NULL; only the calls use it */
+};
+
+/*
+** Opens the store in the bytes of a database file that has no log, as `changeset`,
+** sqlite3 and vollikash_store_save write it; "" with length 0 makes a new one. The file is
+** copied. If the store was open, what it had is freed. Returns OK; DAMAGED_STORE if the
+** file is a database that is no store; STORE_FAULT if it is no database or the database
+** refuses; or NO_MEMORY. Then the store stays what it was. `fault` has no file and no
+** place. It takes time in proportion to the file.
+*/
+int vollikash_store_open(struct vollikash_store *store, const uint8_t *file, size_t length,
+                         struct vollikash_fault *fault) VOLLIKASH_NONNULL;
+
+/*
+** Carries out one call, and keeps its answer until the next one. `answered` gets the
+** length of the answer. Returns OK, also if the answer is that the call is refused;
+** NOT_OPEN; or NO_MEMORY: then there is no answer, `answered` is 0, and the call was not
+** carried out, or it was refused.
+*/
+int vollikash_store_call(struct vollikash_store *store, const uint8_t *call, size_t length,
+                         size_t *answered) VOLLIKASH_NONNULL;
+
+/*
+** Puts the answer to the last call into `out`. It can be asked for again. Before the first
+** call it has no bytes. Errors: NO_ROOM, NOT_OPEN.
+*/
+int vollikash_store_answer(struct vollikash_store *store, uint8_t *out, size_t room,
+                           size_t *written) VOLLIKASH_NONNULL;
+
+/*
+** Makes a database file that has the tables of the store, and no log. The store stays
+** open, its session too. Errors: NO_ROOM, NOT_OPEN, TRANSACTION_OPEN, STORE_FAULT,
+** NO_MEMORY. It takes time in proportion to the store, and so does the next call; if
+** there is none between, saving again takes only a copy.
+*/
+int vollikash_store_save(struct vollikash_store *store, uint8_t *out, size_t room,
+                         size_t *written) VOLLIKASH_NONNULL;
+
+/* Frees what a store has. After that it is {0}. An open transaction is rolled back. */
+void vollikash_store_close(struct vollikash_store *store) VOLLIKASH_NONNULL;
 
 #ifdef __cplusplus
 }

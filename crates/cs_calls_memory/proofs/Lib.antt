@@ -1,1 +1,2 @@
 mod FilesLemmas
+mod HostLemmas

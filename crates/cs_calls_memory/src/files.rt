@@ -5,7 +5,7 @@ ghost use Rattle.cs_value.specs.State.{State};
 ghost use Rattle.cs_rows.specs.Faults.{IsResource};
 ghost use Rattle.cs_store.specs.Crash.{LeavesOnly};
 ghost use Rattle.cs_store.specs.Opening.{OpensFiles};
-ghost use Rattle.cs_store_memory.specs.Memory.{bytes_of};
+ghost use Rattle.cs_store_memory.specs.Memory.{HasTables, bytes_of};
 ghost use Rattle.cs_calls_memory.specs.Hosting.{HoldsIn, image_of};
 
 use cs_store::{Store, StoreError};
@@ -13,15 +13,26 @@ use cs_store_memory::{MemoryFile, MemoryStore, close_file};
 use sqlite::{Files, Options};
 use std::alloc::Global;
 
-/// Returns a file with a copy of bytes.
-pub(crate) fn copy_of(alloc: Global, bytes: &[u8]) -> Result<MemoryFile, StoreError>
-    ensures { IfOk result (λ file. bytes_of file ≡ bytes.now) }
-    ensures memory { IfErr result IsResource }
+/// Returns a copy of bytes.
+pub(crate) fn copied(alloc: Global, bytes: &[u8]) -> Result<Vec<u8>, StoreError>
+    ensures copied { IfOk result (λ copy. copy.items ≡ bytes.now) }
+    ensures refused { IfErr result IsResource }
 {
     let mut copy = Vec::new(alloc);
     match copy.extend_from_slice(bytes) {
-        Ok(()) => Ok(MemoryFile::from_bytes(copy)),
+        Ok(()) => Ok(copy),
         Err(_) => Err(StoreError::NoMemory),
+    }
+}
+
+/// Returns a file with a copy of bytes.
+pub(crate) fn copy_of(alloc: Global, bytes: &[u8]) -> Result<MemoryFile, StoreError>
+    ensures copied { IfOk result (λ file. bytes_of file ≡ bytes.now) }
+    ensures refused { IfErr result IsResource }
+{
+    match copied(alloc, bytes) {
+        Ok(copy) => Ok(MemoryFile::from_bytes(copy)),
+        Err(error) => Err(error),
     }
 }
 
@@ -82,6 +93,8 @@ fn close_copy(alloc: Global, files: &Files<MemoryFile>) -> Result<MemoryFile, St
         → IfOk result (λ file. HasTables held (bytes_of file)) }
     ensures refused { (held : State) → HoldsIn held (image_of files.now) → IfErr result IsResource }
 {
-    let store = open_copy(alloc, files)?;
-    close_file(store)
+    match open_copy(alloc, files) {
+        Ok(store) => close_file(store),
+        Err(error) => Err(error),
+    }
 }

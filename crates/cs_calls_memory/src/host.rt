@@ -1,51 +1,104 @@
 //! A store in memory that answers calls.
-ghost use Rattle.std.specs.Prelude.{◌≡◌, IfErr, IfOk, OnErr, OnOk};
+ghost use Rattle.std.specs.Prelude.{◌≡◌, ◌⊎◌, Err, IfErr, IfOk, OnErr};
 ghost use Rattle.cs_value.specs.State.{State};
-ghost use Rattle.cs_rows.specs.declared.fault.StoreError.{StoreError as Error};
 ghost use Rattle.cs_rows.specs.Faults.{IsResource};
-ghost use Rattle.cs_store_memory.specs.Memory.{FindsTables, HasTables, RefusesBytes, alone};
-ghost use Rattle.cs_calls_answers.specs.Refusals.{plain_refusal};
-ghost use Rattle.cs_calls_executor.specs.Answered as calls;
+ghost use Rattle.cs_calls_answers.specs.declared.answer.Answer.TheVariants.{Refused as RefusedAnswer};
+ghost use Rattle.cs_calls_answers.specs.Spelling.{answer_bytes};
+ghost use Rattle.cs_calls_conversions.specs.Refusals.{of_error};
+ghost use Rattle.cs_store_memory.specs.Memory.{FindsTables, HasTables, RefusesBytes};
 ghost use Rattle.cs_calls_server.specs.Serving.{no_memory};
-ghost use Rattle.cs_calls_memory.specs.Hosting.{Answers, HasInside, IsOpenedFrom, KeepsSession, Lasts, Rests, Settles, Wakes};
+ghost use Rattle.cs_calls_memory.specs.declared.host.MemoryHost.TheVariants as kind;
+ghost use Rattle.cs_calls_memory.specs.Hosting.{Answers, HasTransaction, IsOpenedFrom, Lasts, RefusesSaving, Settles, Shuts, Wakes, code_of, session_of};
+ghost use Rattle.cs_calls_memory.specs.declared.host.SaveFault.TheVariants.{TransactionOpen as InTransaction};
 
-use crate::files::{copy_of, files_of, open_copy, without_log};
-use cs_calls::{Answering, Host, Refused, Service, answer_call};
-use cs_calls_conversions::store_refusal;
-use cs_session::Session;
+use crate::closed::ClosedStore;
+use crate::files::copy_of;
+use cs_calls::{Answering, Host, Service, answer_call};
 use cs_store::StoreError;
 use cs_store_memory::{MemoryFile, open_file};
-use cs_value::NoMemory;
-use sqlite::{FileStore, Files};
+use cs_value::{Fault, NoMemory};
+use sqlite::FileStore;
 use std::alloc::Global;
 use std::mem::replace;
+use thiserror::Error;
 
 /// A store in memory that answers calls, and the session of its host.
-#[derive(Drop)]
 pub enum MemoryHost {
     /// The store is open.
     Open(Service<FileStore<MemoryFile>>),
-    /// No transaction is open, and the next call opens the store in these files.
-    Closed {
-        files: Files<MemoryFile>,
-        session: Option<Session>,
-    },
+    /// No transaction is open, and the next call opens the store.
+    Closed(ClosedStore),
 }
 
-/// The number of an answer that refuses a call, and the codes that say that memory ran out or the database refused.
+// It is written out, so that a caller does not prove again how each part is dropped.
+impl Drop for MemoryHost {
+    fn drop(self) {
+        match self {
+            MemoryHost::Open(_service) => {}
+            MemoryHost::Closed(_closed) => {}
+        }
+    }
+}
+
+/// Why a store is not saved.
+#[derive(Debug, Drop, Error)]
+pub enum SaveFault {
+    #[error("a transaction is open")]
+    TransactionOpen,
+    #[error("{0}")]
+    Store(StoreError),
+}
+
+impl SaveFault {
+    /// Returns its number: 95 while a transaction is open, or that of the store's error.
+    pub fn code(&self) -> u8
+        ensures { result ≡ code_of self.now }
+    {
+        match self {
+            SaveFault::TransactionOpen => 95,
+            SaveFault::Store(error) => error.code(),
+        }
+    }
+}
+
+/// The number of an answer that refuses a call, and the codes that say that the database refused, or memory ran out.
 const REFUSED: u8 = 11;
 const STORE_FAULT: u8 = 38;
 const NO_MEMORY: u8 = 60;
 
-/// Returns whether an answer says that memory ran out or the database refused, so that the store may be shut.
+/// Returns whether an answer says that the database refused or memory ran out, so that the store may be shut.
 fn is_doubtful(answer: &Result<Vec<u8>, NoMemory>) -> bool {
     match answer {
-        Ok(bytes) => match bytes.as_slice() {
-            [REFUSED, _, _, _, _, _, _, _, code, ..] => *code == STORE_FAULT || *code == NO_MEMORY,
-            _ => false,
-        },
-        Err(NoMemory) => true,
+        Ok(bytes) => {
+            let bytes = bytes.as_slice();
+            bytes.len() > 8
+                && bytes[0] == REFUSED
+                && (bytes[8] == STORE_FAULT || bytes[8] == NO_MEMORY)
+        }
+        Err(_) => true,
     }
+}
+
+/// Returns what is kept of a service after a call. A store that may be shut is closed, so that the next call opens it.
+fn settle(service: Service<FileStore<MemoryFile>>, is_doubtful: bool) -> MemoryHost
+    ensures { Settles service result }
+{
+    if !is_doubtful {
+        return MemoryHost::Open(service);
+    }
+    match ClosedStore::of(service) {
+        Ok(closed) => MemoryHost::Closed(closed),
+        Err(service) => MemoryHost::Open(service),
+    }
+}
+
+/// Returns the bytes of the answer of a store that is not open.
+fn refuse(alloc: Global, error: StoreError, call: &[u8]) -> Result<Vec<u8>, NoMemory>
+    ensures { IfOk result (λ sent. (sent.items ≡ answer_bytes (RefusedAnswer (of_error error)))
+        ⊎ (sent.items ≡ no_memory)) }
+{
+    let mut closed: Host<FileStore<MemoryFile>> = Host::Closed(error);
+    closed.answer(alloc, call)
 }
 
 impl MemoryHost {
@@ -56,14 +109,22 @@ impl MemoryHost {
     /// 37 DamagedStore only if the file is a database that is no store. 38 StoreFault if it is no database, or the
     /// database refuses, and 60 NoMemory if out of memory.
     pub fn open(alloc: Global, file: &[u8]) -> Result<MemoryHost, StoreError>
-        ensures opened { IfOk result (IsOpenedFrom (alone file.now)) }
+        ensures opened { IfOk result (IsOpenedFrom file.now) }
         ensures found { (held : State) → FindsTables held file.now → IfOk result (λ host. Lasts host held) }
         ensures refused { IfErr result (RefusesBytes file.now) }
         ensures undamaged { (held : State) → FindsTables held file.now → IfErr result IsResource }
     {
-        let store = open_file(alloc, copy_of(alloc, file)?)?;
-        store.crash_law();
-        Ok(MemoryHost::Open(Service::new(store)))
+        let db = match copy_of(alloc, file) {
+            Ok(db) => db,
+            Err(error) => return Err(error),
+        };
+        match open_file(alloc, db) {
+            Ok(store) => {
+                store.crash_law();
+                Ok(MemoryHost::Open(Service::new(store)))
+            }
+            Err(error) => Err(error),
+        }
     }
 
     /// Carries out the call that the bytes are, and returns the bytes of its answer, as [`answer_call`] does.
@@ -82,8 +143,8 @@ impl MemoryHost {
                 *self = settle(service, is_doubtful(&answer));
                 answer
             }
-            Err((error, host)) => {
-                *self = host;
+            Err((error, closed)) => {
+                *self = MemoryHost::Closed(closed);
                 refuse(alloc, error, call)
             }
         }
@@ -93,64 +154,58 @@ impl MemoryHost {
     ///
     /// # Errors
     ///
-    /// 95 TransactionOpen while a transaction is open. 38 StoreFault if the database refuses, and 60 NoMemory if out of
+    /// `TransactionOpen` while a transaction is open. `StoreFault` if the database refuses, and `NoMemory` if out of
     /// memory.
-    pub fn to_bytes(&mut self, alloc: Global) -> Result<Vec<u8>, Refused>
+    pub fn to_bytes(&mut self, alloc: Global) -> Result<Vec<u8>, SaveFault>
         ensures made { (held : State) → Lasts self.old held → IfOk result (λ bytes. HasTables held bytes.items) }
         ensures kept { (held : State) → Lasts self.old held → Lasts self.new held }
-        ensures session { KeepsSession self.old self.new }
-        ensures refused { (held : State) → Lasts self.old held → IfErr result (λ why.
-            (HasInside self.old × (why ≡ plain_refusal 95)) ⊎ calls.IsResource why) }
-        ensures rests { OnOk result (Rests self.old) }
+        ensures session { session_of self.new ≡ session_of self.old }
+        ensures inside { HasTransaction self.old → (result ≡ Err InTransaction) × (self.new ≡ self.old) }
+        ensures refused { (held : State) → Lasts self.old held → IfErr result (RefusesSaving self.old) }
     {
-        let (files, session) = match self.take(alloc).into_files() {
-            Ok(parts) => parts,
+        match self.take(alloc).close() {
+            Ok(closed) => {
+                let (closed, saved) = closed.save(alloc);
+                *self = MemoryHost::Closed(closed);
+                match saved {
+                    Ok(bytes) => Ok(bytes),
+                    Err(error) => Err(SaveFault::Store(error)),
+                }
+            }
             Err(service) => {
                 *self = MemoryHost::Open(service);
-                return Err(Refused::plain(95));
+                Err(SaveFault::TransactionOpen)
             }
-        };
-        let (files, outcome) = without_log(alloc, files);
-        let bytes = bytes_if(alloc, outcome, &files);
-        *self = MemoryHost::Closed { files, session };
-        bytes
-    }
-
-    /// Takes the store, and leaves a new one.
-    fn take(&mut self, alloc: Global) -> MemoryHost
-        ensures { result ≡ self.old }
-    {
-        let files = Files {
-            log: MemoryFile::new(alloc),
-            db: MemoryFile::new(alloc),
-        };
-        replace(self, MemoryHost::Closed { files, session: None })
-    }
-
-    /// Opens the store, if it is closed. After an error it is as it was.
-    fn wake(self, alloc: Global) -> Result<Service<FileStore<MemoryFile>>, (StoreError, MemoryHost)>
-        ensures woken { IfOk result (Wakes self) }
-        ensures refused { (held : State) → Lasts self held → IfErr result (λ e. IsResource e.0) }
-        ensures same { IfErr result (λ e. e.1 ≡ self) }
-    {
-        match self {
-            MemoryHost::Open(service) => Ok(service),
-            MemoryHost::Closed { files, session } => match open_copy(alloc, &files) {
-                Ok(store) => Ok(Service::AtRest { store, session }),
-                Err(error) => Err((error, MemoryHost::Closed { files, session })),
-            },
         }
     }
 
-    /// Returns the files of the store, and the session, or the service, if a transaction is open.
-    fn into_files(
-        self,
-    ) -> Result<(Files<MemoryFile>, Option<Session>), Service<FileStore<MemoryFile>>>
+    /// Takes the store, and leaves one without tables.
+    fn take(&mut self, alloc: Global) -> MemoryHost
+        ensures { result ≡ self.old }
+    {
+        replace(self, MemoryHost::Closed(ClosedStore::new(alloc)))
+    }
+
+    /// Returns the service, which opens a closed store.
+    fn wake(self, alloc: Global) -> Result<Service<FileStore<MemoryFile>>, (StoreError, ClosedStore)>
+        ensures woken { IfOk result (Wakes self) }
+        ensures refused { (held : State) → Lasts self held → IfErr result (λ e. IsResource e.0) }
+        ensures same { IfErr result (λ e. kind.Closed e.1 ≡ self) }
     {
         match self {
-            MemoryHost::Open(Service::AtRest { store, session }) => Ok((files_of(store), session)),
-            MemoryHost::Open(service) => Err(service),
-            MemoryHost::Closed { files, session } => Ok((files, session)),
+            MemoryHost::Open(service) => Ok(service),
+            MemoryHost::Closed(closed) => closed.open(alloc),
+        }
+    }
+
+    /// Closes the store, or returns the service if a transaction is open.
+    fn close(self) -> Result<ClosedStore, Service<FileStore<MemoryFile>>>
+        ensures closed { IfOk result (Shuts self) }
+        ensures inside { IfErr result (λ service. (kind.Open service ≡ self) × HasTransaction self) }
+    {
+        match self {
+            MemoryHost::Open(service) => ClosedStore::of(service),
+            MemoryHost::Closed(closed) => Ok(closed),
         }
     }
 }

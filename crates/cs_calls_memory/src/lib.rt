@@ -6,11 +6,13 @@
 //! let saved = host.to_bytes(alloc)?;
 //! ```
 //!
-//! `host` has the store, which is open or closed, and `files` the files of a closed one: they are copied before they
-//! are opened, so a store is not lost if memory runs out.
+//! `host` has the store, which is open or closed. `closed` has a closed one, and `files` its files: they are copied
+//! before they are opened, so that a store is not lost if memory runs out.
 #![tactic(auto)]
 
+mod closed;
 mod files;
 mod host;
 
-pub use host::MemoryHost;
+pub use closed::ClosedStore;
+pub use host::{MemoryHost, SaveFault};

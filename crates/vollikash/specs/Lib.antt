@@ -4,3 +4,4 @@ pub mod Groups
 pub mod Iterating
 pub mod Messages
 pub mod Owned
+pub mod Stores

@@ -30,11 +30,15 @@ low_messages =
 abbrev pub message_of : ℕ → Option (List ℕ)
 message_of code =
     if nat_lt code 19 then Some (get_or low_messages code [])
+    else if code == 37 then Some (codes "the file is a database that is no store")
+    else if code == 38 then Some (codes "the file is no database, or the database refuses")
     else if code == 43 then Some (codes "a table has other columns or another key than in an earlier file")
     else if code == 60 then Some (codes "out of memory")
     else if code == 80 then Some (codes "the buffer is too small")
     else if code == 81 then Some (codes "no change is left")
     else if code == 82 then Some (codes "an argument is out of range")
+    else if code == 83 then Some (codes "the store is not open")
+    else if code == 95 then Some (codes "a transaction of the store is open")
     else None
 
 -- the same of C's int

@@ -18,6 +18,9 @@ pub const DONE: i32 = 81;
 /// An argument is out of range.
 pub const RANGE: i32 = 82;
 
+/// The store is not open.
+pub const NOT_OPEN: i32 = 83;
+
 /// What a call reports of itself.
 #[repr(C)]
 #[derive(Clone, Copy, Debug, PartialEq, Eq)]
@@ -59,6 +62,21 @@ pub(crate) fn report(refusal: &ToolFault) -> FaultReport
     }
 }
 
+/// Puts bytes into the caller's buffer if there is room for them, and their number into `written`.
+pub(crate) fn give(bytes: &[u8], out: &mut [u8], written: &mut usize) -> i32
+    ensures given { result ≡ OK → Gives (λ made. made ≡ bytes.now) out.old out.new written.new }
+    ensures room { result ≡ NO_ROOM → Lacks (λ made. made ≡ bytes.now) out.old written.new }
+    ensures same { result ≢ OK → out.new ≡ out.old }
+    ensures code { IsMadeCode result }
+{
+    *written = bytes.len();
+    if bytes.len() > out.len() {
+        return NO_ROOM;
+    }
+    out[..bytes.len()].copy_from_slice(bytes);
+    OK
+}
+
 /// Puts bytes into the caller's buffer where there is room for them, and says why there are none.
 pub(crate) fn hand_out(
     made: Result<Vec<u8>, ToolFault>,
@@ -74,13 +92,12 @@ pub(crate) fn hand_out(
     ensures code { fault.new.code ≡ result }
     ensures plain { IsMadeCode result → fault.new ≡ no_fault result }
 {
-    (*written, *fault) = match made {
-        Ok(bytes) if bytes.len() <= out.len() => {
-            out[..bytes.len()].copy_from_slice(&bytes);
-            (bytes.len(), report_plain(OK))
+    *fault = match made {
+        Ok(bytes) => report_plain(give(&bytes, out, written)),
+        Err(refusal) => {
+            *written = 0;
+            report(&refusal)
         }
-        Ok(bytes) => (bytes.len(), report_plain(NO_ROOM)),
-        Err(refusal) => (0, report(&refusal)),
     };
     fault.code
 }

@@ -15,7 +15,6 @@ use crate::held::Held;
 use cs_changegroup::Changegroup;
 use cs_files::ToolFault;
 use std::alloc::Global;
-use std::mem::replace;
 
 /// Adds a file to a group: the group does what it did, and then what the file does.
 ///
@@ -91,9 +90,7 @@ pub extern "C" fn vollikash_group_output(
 pub extern "C" fn vollikash_group_close(alloc: Global, group: &mut Handle)
     ensures { group.new.value ≡ None }
 {
-    if !group.is_null() {
-        drop(replace(group, Handle::none()).into_box(alloc));
-    }
+    group.free(alloc);
 }
 
 /// Adds a file to a group. A refusal leaves what the group has.
@@ -110,6 +107,7 @@ fn add(alloc: Global, group: &mut Handle, file: &[u8]) -> Result<(), ToolFault>
     if group.is_null() {
         let held = Held {
             group: Changegroup::new(alloc),
+            store: None,
         };
         match Box::new(alloc, held) {
             Ok(held) => *group = Handle::of(held),

@@ -8,6 +8,7 @@ mod lent;
 use crate::held::Held;
 use std::alloc::Global;
 use std::marker::Model;
+use std::mem::replace;
 
 /// What C points to, and does not look into.
 #[repr(C)]
@@ -15,7 +16,7 @@ pub struct Opaque {
     unused: u8,
 }
 
-/// C's `struct vollikash_group`: a pointer to what C keeps, or null if it keeps nothing.
+/// C's `struct vollikash_group` and `struct vollikash_store`: a pointer to what C keeps, or null if it keeps nothing.
 #[repr(C)]
 #[derive(Drop)]
 pub struct Handle {
@@ -52,6 +53,15 @@ impl Handle {
         ensures { Some result.value ≡ self.value }
     {
         unsafe { Box::from_raw(alloc, self.at as *mut Held) }
+    }
+
+    /// Frees what a handle points to. It is null then.
+    pub(crate) fn free(&mut self, alloc: Global)
+        ensures { self.new.value ≡ None }
+    {
+        if !self.is_null() {
+            drop(replace(self, Handle::none()).into_box(alloc));
+        }
     }
 
     /// Returns whether a handle is null.

@@ -1,7 +1,7 @@
 //! Vollikash for C, and for every language that calls C: the calls that take and make bytes.
 //!
 //! `bindings/c/vollikash.h` declares each export and says what C has to keep to. A slice crosses as a
-//! pointer and a length, and the allocator, which has no bytes, is no parameter in C. Only a `Group`
+//! pointer and a length, and the allocator, which has no bytes, is no parameter in C. Only a `Handle`
 //! keeps anything, until it is closed. What another call makes goes into the caller's buffer, and
 //! what it took is freed when it returns.
 //!
@@ -22,8 +22,9 @@ mod held;
 mod iterator;
 mod many;
 mod message;
+mod store;
 
-pub use answer::{DONE, FaultReport, NO_ROOM, OK, RANGE};
+pub use answer::{DONE, FaultReport, NO_ROOM, NOT_OPEN, OK, RANGE};
 use answer::{hand_out, report, report_plain};
 use cs_file_scan::Tables;
 use cs_files::{concat_bytes, dump_file, first_fault, invert_bytes, number_keys_bytes, sql_file};
@@ -35,6 +36,10 @@ pub use iterator::{vollikash_next, vollikash_value, vollikash_values};
 pub use many::{vollikash_concat_many, vollikash_select};
 pub use message::vollikash_message;
 use std::alloc::Global;
+pub use store::{
+    vollikash_store_answer, vollikash_store_call, vollikash_store_close, vollikash_store_open,
+    vollikash_store_save,
+};
 
 /// The version of the library, as one number: a million times the major one, a thousand times the minor one,
 /// and the patch.

@@ -54,11 +54,15 @@ fn sentence_of(code: u8) -> Option<&'static str>
         return Some(low_sentence(code));
     }
     match code {
+        37 => Some("the file is a database that is no store"),
+        38 => Some("the file is no database, or the database refuses"),
         43 => Some("a table has other columns or another key than in an earlier file"),
         60 => Some("out of memory"),
         80 => Some("the buffer is too small"),
         81 => Some("no change is left"),
         82 => Some("an argument is out of range"),
+        83 => Some("the store is not open"),
+        95 => Some("a transaction of the store is open"),
         _ => None,
     }
 }
