@@ -11,6 +11,7 @@ use Rattle.cs_rows.specs.declared.fault.StoreError.{StoreError}
 use Rattle.cs_rows.specs.Faults as stores
 use Rattle.cs_store.specs.Crash.{LeavesOnly}
 use Rattle.cs_store.specs.Opening.{IsLeftIn, OpensFiles}
+use Rattle.cs_store.specs.Store.{tables_in}
 use Rattle.cs_store_memory.specs.Memory.{alone, bytes_of}
 use Rattle.cs_store_memory.specs.declared.file.MemoryFile.{MemoryFile}
 use Rattle.cs_store_memory.specs.contracts.file.MemoryFileDisk.TheImpl.{ghosts}
@@ -27,6 +28,9 @@ use Rattle.cs_calls_memory.specs.declared.host.MemoryHost.{MemoryHost}
 use Rattle.cs_calls_memory.specs.declared.host.MemoryHost.TheVariants.{Open, Closed}
 use Rattle.cs_calls_memory.specs.declared.host.SaveFault.{SaveFault}
 use Rattle.cs_calls_memory.specs.declared.host.SaveFault.TheVariants.{TransactionOpen, Store}
+
+abbrev pub MemoryStore : Type 0
+MemoryStore = Held (FileStore MemoryFile ghosts)
 
 abbrev pub MemoryService : Type 0
 MemoryService = Service (FileStore MemoryFile ghosts)
@@ -73,13 +77,19 @@ HasTransaction (Closed closed) = ⊥
 
 -- the store was opened in the bytes of a database file without a log, and no session is open
 pub record IsOpenedFrom (file : List ℕ) (host : MemoryHost) : Type 0 where
-  pub store : Held (FileStore MemoryFile ghosts)
+  pub store : MemoryStore
   pub is : host ≡ Open (AtRest store None)
   pub opens : OpensFiles (alone file) (file_state store)
 
--- a service is over the store that is found in the files
+-- the store that is found in files shows the tables that they hold, and these last of it
+pub record IsFoundIn (image : Image) (store : MemoryStore) : Type 0 where
+  pub opens : OpensFiles image (file_state store)
+  pub shows : (held : State) → HoldsIn held image → tables_in (file_state store).now ≡ held
+  pub leaves : (held : State) → HoldsIn held image → LeavesOnly (λ left. left ≡ held) (file_state store)
+
+-- a service is over that store, with the session of the host
 abbrev pub Opens : ClosedStore → MemoryService → Type 0
-Opens closed (AtRest store session) = OpensFiles (image_of closed.files) (file_state store) × (session ≡ closed.session)
+Opens closed (AtRest store session) = IsFoundIn (image_of closed.files) store × (session ≡ closed.session)
 Opens closed (InTransaction transaction session written) = ⊥
 
 -- the store of a service is closed: its files hold the tables that last of it

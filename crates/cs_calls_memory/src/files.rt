@@ -4,9 +4,8 @@ ghost use Rattle.sqlite.specs.Files.{file_state};
 ghost use Rattle.cs_value.specs.State.{State};
 ghost use Rattle.cs_rows.specs.Faults.{IsResource};
 ghost use Rattle.cs_store.specs.Crash.{LeavesOnly};
-ghost use Rattle.cs_store.specs.Opening.{OpensFiles};
 ghost use Rattle.cs_store_memory.specs.Memory.{HasTables, bytes_of};
-ghost use Rattle.cs_calls_memory.specs.Hosting.{HoldsIn, image_of};
+ghost use Rattle.cs_calls_memory.specs.Hosting.{HoldsIn, IsFoundIn, image_of};
 
 use cs_store::{Store, StoreError};
 use cs_store_memory::{MemoryFile, MemoryStore, close_file};
@@ -49,7 +48,7 @@ pub(crate) fn files_of(store: MemoryStore) -> Files<MemoryFile>
 ///
 /// `StoreFault` if the database refuses, and `NoMemory` if out of memory.
 pub(crate) fn open_copy(alloc: Global, files: &Files<MemoryFile>) -> Result<MemoryStore, StoreError>
-    ensures opened { IfOk result (λ store. OpensFiles (image_of files.now) (file_state store)) }
+    ensures found { IfOk result (IsFoundIn (image_of files.now)) }
     ensures refused { (held : State) → HoldsIn held (image_of files.now) → IfErr result IsResource }
 {
     let copies = Files {
@@ -57,7 +56,10 @@ pub(crate) fn open_copy(alloc: Global, files: &Files<MemoryFile>) -> Result<Memo
         db: copy_of(alloc, files.db.as_slice())?,
     };
     match Store::open_files(alloc, copies, Options::new(0), false) {
-        Ok(store) => Ok(store),
+        Ok(store) => {
+            store.crash_law();
+            Ok(store)
+        }
         Err((error, _left)) => Err(error),
     }
 }
