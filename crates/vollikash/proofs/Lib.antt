@@ -3,3 +3,4 @@ pub mod HandleGlue
 pub mod HandleParts
 pub mod HandleSteps
 pub mod MessageLemmas
+pub mod StoreLemmas

@@ -1,8 +1,10 @@
 -- What C's handle owns.
 use Rattle.std.specs.Prelude.{Option, Some, None}
 use base.Fml.{Fml, feq}
+use base.Stored.{Coded}
 use denote.RawPtr.{Ptr, null_ptr}
 use mir.Syntax.{Ty}
+use Rattle.std.specs.Coded.{coded_option}
 use Rattle.std.specs.declared.alloc.Global.{Global}
 use Rattle.std.specs.contracts.impls.GlobalAllocator.TheImpl.{ghosts}
 use Rattle.std_alloc.specs.Box.Ownership.{box_owns}
@@ -16,6 +18,10 @@ heap = record { memory = record { seal = tt } }
 -- the right to free what it allocated at a place
 abbrev pub chunk : Ty → Ptr → Fml
 chunk = ghosts.dealloc_token heap
+
+-- by which values are told apart
+abbrev pub held_code : Coded (Option Held)
+held_code = coded_option the_row.coded
 
 -- what is held at p, and the right to free it; or nothing, and p is null
 abbrev pub held_at : Option Held → Ptr → Fml

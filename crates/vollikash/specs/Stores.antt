@@ -18,12 +18,12 @@ store_in (Some held) = held.store
 -- the answer to its last call
 abbrev pub answer_of : Option OpenStore → List ℕ
 answer_of None = []
-answer_of (Some open) = open.answer.items
+answer_of (Some it) = it.answer.items
 
 -- the tables that last of it
 abbrev pub LastsOf : Option OpenStore → State → Type 0
 LastsOf None held = ⊥
-LastsOf (Some open) held = Lasts open.host held
+LastsOf (Some it) held = Lasts it.host held
 
 -- a store was opened in the bytes of a file, and no call was answered
 pub record OpensIn (file : List ℕ) (new : Option OpenStore) : Type 0 where
@@ -49,5 +49,5 @@ pub record AnswersIn (old : Option OpenStore) (call sent : List ℕ) (new : Opti
 -- why a store is not saved
 abbrev pub RefusesSavingOf : Option OpenStore → ℤ → Type 0
 RefusesSavingOf None code = code ≡ NOT_OPEN
-RefusesSavingOf (Some open) code =
-    (fault : SaveFault) × RefusesSaving open.host fault × (code ≡ pos (code_of fault))
+RefusesSavingOf (Some it) code =
+    (fault : SaveFault) × RefusesSaving it.host fault × (code ≡ pos (code_of fault))

@@ -1,7 +1,7 @@
 //! A pointer that C keeps.
 ghost use Rattle.std.specs.Prelude.{◌≡◌, Option, None, Some, IsSome, is_none};
 ghost use Rattle.vollikash.specs.declared.held.Held.{Held as HeldView};
-ghost use Rattle.vollikash.specs.Owned.{held_at};
+ghost use Rattle.vollikash.specs.Owned.{held_at, held_code};
 
 mod lent;
 
@@ -21,7 +21,7 @@ pub struct Opaque {
 #[derive(Drop)]
 pub struct Handle {
     pub(crate) at: *mut Opaque,
-    ghost value: { Option HeldView },
+    ghost value: { Option HeldView } by { held_code },
 }
 
 impl Model for Handle {

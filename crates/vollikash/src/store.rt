@@ -35,12 +35,16 @@ pub extern "C" fn vollikash_store_open(
     ensures same { result ≢ OK → store.new.value ≡ store.old.value }
     ensures reported { fault.new ≡ no_fault result }
 {
-    let code = match open(alloc, store, file) {
-        Ok(()) => OK,
-        Err(error) => i32::from(error.code()),
-    };
-    *fault = report_plain(code);
-    code
+    match open(alloc, store, file) {
+        Ok(()) => {
+            *fault = report_plain(OK);
+            OK
+        }
+        Err(error) => {
+            *fault = report_plain(i32::from(error.code()));
+            fault.code
+        }
+    }
 }
 
 /// Carries out a call, and keeps its answer until the next. `answered` gets its length.
