@@ -1,5 +1,5 @@
 -- What files hold of a store.
-use Rattle.std.proofs.Common.{◌≡◌, ◌⊎◌, [], inl, inr, IsTrue, ap, sym, subst, ◌∙◌, refl, true}
+use Rattle.std.proofs.Common.{◌≡◌, inl, inr, IsTrue, ap, sym, subst, ◌∙◌, refl, true}
 use Rattle.sqlite_disk.specs.declared.Disk.{Ghosts}
 use Rattle.sqlite_pool.specs.Pool.{state as pool_state}
 use Rattle.sqlite_store.specs.declared.store.FileStore.{FileStore}

@@ -63,7 +63,9 @@ impl SaveFault {
 
 /// The number of an answer that refuses a call, and the codes that say that the database refused, or memory ran out.
 const REFUSED: u8 = 11;
+
 const STORE_FAULT: u8 = 38;
+
 const NO_MEMORY: u8 = 60;
 
 /// Returns whether an answer says that the database refused or memory ran out, so that the store may be shut.
@@ -187,7 +189,10 @@ impl MemoryHost {
     }
 
     /// Returns the service, which opens a closed store.
-    fn wake(self, alloc: Global) -> Result<Service<FileStore<MemoryFile>>, (StoreError, ClosedStore)>
+    fn wake(
+        self,
+        alloc: Global,
+    ) -> Result<Service<FileStore<MemoryFile>>, (StoreError, ClosedStore)>
         ensures woken { IfOk result (Wakes self) }
         ensures refused { (held : State) → Lasts self held → IfErr result (λ e. IsResource e.0) }
         ensures same { IfErr result (λ e. kind.Closed e.1 ≡ self) }

@@ -12,4 +12,4 @@ pub returns : goal.returns
 returns c held leaves =
     let clean = clean_files (λ disk. refl) c.into_files.result in
     inl (subst (λ (files : MemoryFile × MemoryFile). IsLeftIn held (record { log = bytes_of files.0; db = bytes_of files.1 })) (sym c.close.ensures)
-        (c.into_files.ensures.left held clean leaves _ (seen_may_be_left c.into_files.result.pool (λ file. refl) (clean_of _ clean))))
+    (c.into_files.ensures.left held clean leaves _ (seen_may_be_left c.into_files.result.pool (λ file. refl) (clean_of _ clean))))

@@ -1,5 +1,5 @@
 -- `files::open_copy`: the store is the one that the files hold, and is refused for want of memory, or by the database.
-use Rattle.std.proofs.Common.{inl, inr, refl, sym}
+use Rattle.std.proofs.Common.{inl, inr, refl}
 use Rattle.cs_store_memory.proofs.HonestLemmas.{honest, honest_rest}
 use Rattle.cs_calls_memory.proofs.FilesLemmas.{found_in}
 use Rattle.cs_calls_memory.proofs.files.open_copy.Goals as goal

@@ -1,6 +1,5 @@
 -- `store::open`: its clauses.
-use Rattle.std.proofs.Common.{refl, ap, sym, ◌∙◌}
-use Rattle.vollikash.specs.Stores.{store_in}
+use Rattle.std.proofs.Common.{refl}
 use Rattle.vollikash.proofs.store.open.Goals as goal
 
 pub returns-then-not-is_null-clause-opened : goal.returns-then-not-is_null-clause-opened

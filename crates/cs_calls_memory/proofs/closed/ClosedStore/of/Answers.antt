@@ -1,6 +1,5 @@
 -- `closed::ClosedStore::of`: the files hold what lasts of the store.
 use Rattle.std.proofs.Common.{refl}
-use Rattle.cs_calls_memory.specs.Hosting.{Closes}
 use Rattle.cs_calls_memory.proofs.closed.ClosedStore.of.Goals as goal
 
 pub returns-in-AtRest-clause-closed : goal.returns-in-AtRest-clause-closed

@@ -1,10 +1,9 @@
 -- `host::MemoryHost::open`: its clauses.
-use Rattle.std.proofs.Common.{◌≡◌, IsTrue, ap, sym, subst, ◌∙◌}
+use Rattle.std.proofs.Common.{◌≡◌, ap, subst, ◌∙◌}
 use Rattle.sqlite.specs.Files.{file_state}
 use Rattle.cs_value.specs.State.{State}
 use Rattle.cs_store.specs.Crash.{LeavesOnly}
 use Rattle.cs_store.specs.Store.{tables_in}
-use Rattle.cs_store_memory.specs.Memory.{FindsTables}
 use Rattle.cs_calls_memory.specs.declared.host.MemoryHost.TheVariants as kind
 use Rattle.cs_calls_memory.proofs.host.MemoryHost.open.Goals as goal
 
