@@ -76,9 +76,11 @@ static struct bytes contents_of(const char *path)
 void *__real_malloc(size_t size);
 void *__real_calloc(size_t count, size_t size);
 void *__real_realloc(void *memory, size_t size);
+void __real_free(void *memory);
 void *__wrap_malloc(size_t size);
 void *__wrap_calloc(size_t count, size_t size);
 void *__wrap_realloc(void *memory, size_t size);
+void __wrap_free(void *memory);
 
 /* Which allocation is refused, counted from here on, or none for 0, and how many were asked for. */
 static long refused = 0;
@@ -97,6 +99,11 @@ void *__wrap_calloc(size_t count, size_t size)
 void *__wrap_realloc(void *memory, size_t size)
 {
     return ++allocations == refused ? NULL : __real_realloc(memory, size);
+}
+
+void __wrap_free(void *memory)
+{
+    __real_free(memory);
 }
 
 /* Whether the answer to a call says that memory ran out, or that the database refuses. */
