@@ -96,7 +96,7 @@ def store_with_rule(path=":memory:", *rows):
 
 def number_of(store):
     """The number of a store's process."""
-    return store._process._process.pid
+    return store._server._process.pid
 
 
 def is_running(process):
@@ -149,7 +149,7 @@ class Folder(unittest.TestCase):
     @contextlib.contextmanager
     def unasked(self, store):
         """Asserts that nothing is sent in the block."""
-        with unittest.mock.patch.object(store._process, "ask", side_effect=AssertionError("it is sent")):
+        with unittest.mock.patch.object(store._server, "ask", side_effect=AssertionError("it is sent")):
             yield
 
     def run_python(self, text, *words, **options):
@@ -1006,7 +1006,7 @@ class Programs(Folder):
         printed = self.run_python("""
             import vollikash
             store = vollikash.open(':memory:')
-            print(store._process._process.pid)
+            print(store._server._process.pid)
         """)
         self.expect_ended(int(printed))
 
@@ -1177,10 +1177,10 @@ class Interrupts(Folder):
             with contextlib.suppress(ProgramError, TimeoutError, ValueError):
                 with self.alarm(chance.random() * longest):
                     call(store, number)
-            if store._process.is_open:
+            if store._server.is_open:
                 with contextlib.suppress(ProgramError):
                     store.tables()
-            if not store._process.is_open:
+            if not store._server.is_open:
                 store = vollikash.open(path)
             yield number, store
         store.close()
@@ -1282,7 +1282,7 @@ class Interrupts(Folder):
         # Whether a thread runs is not known if an exception comes while it is asked.
         while not ended:
             try:
-                if not store._process.is_open:
+                if not store._server.is_open:
                     time.sleep(0.01)
                     continue
                 number = store.count("t")
@@ -1334,7 +1334,7 @@ class Forks(Folder):
                 os.close(writer)
                 os.read(reader, 1)
                 os._exit(0)
-            number = store._process._process.pid
+            number = store._server._process.pid
             started = time.monotonic()
             store.close()
             print(time.monotonic() - started < 20, os.path.exists(f"/proc/{number}"))

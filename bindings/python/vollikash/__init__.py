@@ -26,7 +26,7 @@ from ._group import Group
 from ._json import from_json, read_json, to_json, write_json
 from ._schema import Schema
 from ._session import Session
-from ._store import Store, open
+from ._store import Store, from_bytes, open
 from ._tables import Counts, select, stat
 from ._undo import Action, UndoStack
 from ._values import UNDEFINED, Field, Op, Undefined, Value
@@ -35,11 +35,11 @@ __all__ = [
     "Action", "AlreadyAttached", "BadSchema", "Builder", "Busy", "Cause", "Change",
     "ChangesetError", "Choice", "Code", "Conflict", "ConflictError", "ConflictsDiffer", "Counts",
     "DamagedStore", "Error", "Field", "FrameTooLong", "Group", "Interrupted", "JsonError",
-    "KeyTaken", "Kind", "NoRow", "NoSession", "NoTable", "NoTransaction", "NotNull", "NullInKey", "Op",
-    "PendingConflict", "ProgramError", "Report", "RowWidth", "Schema", "Session", "SessionOpen",
-    "Store", "StoreError", "StoreFault", "TableExists", "TransactionEnded", "TransactionOpen",
-    "UNDEFINED", "Undefined", "UndoStack", "UnknownColumn", "Value", "Wider", "WrongStore",
-    "changes", "check", "concat", "dump", "explain", "from_json", "invert", "number_keys", "open",
-    "read_json", "select", "sql", "stat", "to_json", "write_json",
+    "KeyTaken", "Kind", "NoRow", "NoSession", "NoTable", "NoTransaction", "NotNull", "NullInKey",
+    "Op", "PendingConflict", "ProgramError", "Report", "RowWidth", "Schema", "Session",
+    "SessionOpen", "Store", "StoreError", "StoreFault", "TableExists", "TransactionEnded",
+    "TransactionOpen", "UNDEFINED", "Undefined", "UndoStack", "UnknownColumn", "Value", "Wider",
+    "WrongStore", "changes", "check", "concat", "dump", "explain", "from_bytes", "from_json",
+    "invert", "number_keys", "open", "read_json", "select", "sql", "stat", "to_json", "write_json",
 ]
 __version__ = "1.0.0"

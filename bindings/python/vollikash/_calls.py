@@ -75,6 +75,9 @@ def _framed(*parts: bytes) -> bytes:
 DONE = _framed(bytes([_IS_DONE]))
 _IS_THERE = bytes([_IS_ROW]) + _SOME
 
+# The answer that memory ran out.
+MEMORY_REFUSED = _framed(bytes([_IS_REFUSED]), Code.NO_MEMORY.to_bytes(8, "big"), 4 * _NONE)
+
 
 def _name(name: str) -> bytes:
     """Return the bytes of the name of a table or a column."""

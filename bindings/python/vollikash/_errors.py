@@ -76,6 +76,7 @@ class Code(enum.IntEnum):
     NO_ROOM = 80
     DONE = 81
     RANGE = 82
+    NOT_OPEN = 83
     FRAME_TOO_LONG = 94
     TRANSACTION_OPEN = 95
     NO_TRANSACTION = 96

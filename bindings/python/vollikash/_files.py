@@ -1,8 +1,9 @@
-"""The calls on files, by libvollikash.so.
+"""The calls on files and on stores in memory, by libvollikash.so.
 
 The library is next to this file if it is installed, or where the repository builds it, or where the
 system keeps its libraries. The environment variable VOLLIKASH_LIBRARY names another one. The first
-call loads it. Only a group keeps state. Several threads can call at once, but one at a time on a group.
+call loads it. Only a group and a store keep state. Several threads can call at once, but one at a
+time on a group, and on a store only the one that opened it.
 """
 import ctypes
 import functools
@@ -65,22 +66,30 @@ def _library() -> ctypes.CDLL:
     library.vollikash_group_limit.restype = ctypes.c_size_t
     library.vollikash_group_close.restype = None
     library.vollikash_group_output.argtypes = held + _OUT + _FAULT
+    library.vollikash_store_open.argtypes = held + _FILE + _FAULT
+    library.vollikash_store_call.argtypes = held + _FILE + _OUT[2:]
+    library.vollikash_store_answer.argtypes = library.vollikash_store_save.argtypes = held + _OUT
+    library.vollikash_store_close.argtypes = held
+    library.vollikash_store_close.restype = None
     return library
 
 
 class Held(ctypes.Structure):
-    """What the library keeps of the files that were added: `struct vollikash_group`."""
+    """What the library keeps: `struct vollikash_group` or `struct vollikash_store`."""
 
     _fields_ = [("at", ctypes.c_void_p)]
 
-    # As the interpreter ends, the names of this module may be gone.
-    def __del__(
+    def close(
         self,
         library: Callable[[], ctypes.CDLL] = _library,
         byref: Callable[..., object] = ctypes.byref,
     ) -> None:
+        """Free it."""
+        # As the interpreter ends, the names of this module may be gone.
         if self.at:
-            library().vollikash_group_close(byref(self))
+            library().vollikash_store_close(byref(self))
+
+    __del__ = close
 
 
 def as_bytes(file: Bytes) -> bytes:

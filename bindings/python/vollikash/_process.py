@@ -349,6 +349,10 @@ class Process:
         """Let nobody make a call, or let calls be made again."""
         self._is_free = self._is_open and not is_occupied
 
+    def ahead(self, keeps: bool = False) -> "Ahead":
+        """Return what sends many calls."""
+        return Ahead(self, keeps)
+
     def begin_ahead(self, ahead: "Ahead") -> Optional["Ahead"]:
         """Let calls be sent by something else, and return what has sent them before."""
         self._expect_free()

@@ -20,6 +20,7 @@ from ._errors import (
     StoreError, StoreFault, TableExists, TransactionEnded, UnknownColumn,
 )
 from ._files import Bytes, as_bytes
+from ._memory import Direct, Memory
 from ._process import Ahead, Process
 from ._schema import Schema
 from ._session import Session
@@ -139,7 +140,7 @@ class _Part:
     def __enter__(self) -> bool:
         """Return whether the transaction is its own."""
         store = self._store
-        store._process.lock.acquire()
+        store._server.lock.acquire()
         try:
             store._expect_allowed(False)
             if not store._is_begun:
@@ -147,7 +148,7 @@ class _Part:
                 store._begin(own)
                 self._own = own
         except BaseException:
-            store._process.lock.release()
+            store._server.lock.release()
             raise
         return self._own is not None
 
@@ -161,14 +162,14 @@ class _Part:
             if self._own is not None:
                 self._own.__exit__(kind, error, trace)
         finally:
-            self._store._process.lock.release()
+            self._store._server.lock.release()
         is_undone = self._takes_back or self._own is not None
         if is_undone and isinstance(error, KeyboardInterrupt):
             raise self._store._unfinished(error) from error
 
 
 class Store:
-    """A store in a file, or in memory for the path ":memory:". Made by `open`.
+    """A store in a file, or in memory. Made by `open` and `from_bytes`.
 
     Several threads can share a store: a lock lets one call or one transaction through at a time. A
     transaction belongs to the thread, and under asyncio to the task, that has begun it. Another
@@ -182,8 +183,8 @@ class Store:
     Ctrl-C within a call raises `Interrupted` after its answer, and the store remains open.
     """
 
-    def __init__(self, process: Process, path: str) -> None:
-        self._process, self._path = process, path
+    def __init__(self, server: Union[Process, Memory], path: str) -> None:
+        self._server, self._path = server, path
         # Whether a transaction is open, or known to be over, its block, its task, and what it has
         # read of tables.
         self._is_begun = self._is_over = False
@@ -209,7 +210,7 @@ class Store:
         self.close()
 
     def __repr__(self) -> str:
-        state = "open" if self._process.is_open else "closed"
+        state = "open" if self._server.is_open else "closed"
         return f"<vollikash.Store {self._path!r}, {state}>"
 
     def __reduce__(self) -> NoReturn:
@@ -217,18 +218,18 @@ class Store:
 
     def __del__(self) -> None:
         # `__init__` may not have been called.
-        process = self.__dict__.get("_process")
-        if process is not None and process.is_open:
+        server = self.__dict__.get("_server")
+        if server is not None and server.is_open:
             warnings.warn(f"{self!r} was not closed", ResourceWarning, source=self)
 
     def close(self) -> None:
         """End the program. What was done remains in the file, and an open transaction is rolled
         back. The calls of a closed store raise `ProgramError`, but for this one.
         """
-        with self._process.lock:
+        with self._server.lock:
             if self._is_watched:
                 self._expect_allowed(False)
-            self._process.close()
+            self._server.close()
 
     def _expect_allowed(self, is_read: bool) -> None:
         """Raise RuntimeError for a call that is not allowed at this time.
@@ -237,7 +238,7 @@ class Store:
         program, and with it the transaction.
         """
         if self._is_begun and self._block() is None:
-            self._process.end()
+            self._server.end()
             self._forget()
             raise ProgramError("a signal has left the block of a transaction: the store is closed")
         if self._owner is not None and self._owner is not _task():
@@ -247,27 +248,27 @@ class Store:
 
     def _tell(self, frame: bytes) -> None:
         """Make a call that returns nothing."""
-        process = self._process
-        with process.lock:
+        server = self._server
+        with server.lock:
             if self._is_watched:
                 self._expect_allowed(False)
-            answer = process.ask(frame)
+            answer = server.ask(frame)
             if answer != _calls.DONE:
                 self._answer(answer, _calls.read_done)
 
     def _ask(self, frame: bytes, read: Callable[[bytes], _T], is_read: bool = False) -> _T:
         """Make a call, and return its answer as it is read so."""
-        with self._process.lock:
+        with self._server.lock:
             if self._is_watched:
                 self._expect_allowed(is_read)
-            return self._answer(self._process.ask(frame), read)
+            return self._answer(self._server.ask(frame), read)
 
     def _answer(self, answer: bytes, read: Callable[[bytes], _T]) -> _T:
         """Return an answer as it is read so. Raise the error if the call is refused."""
         try:
             return read(answer)
         except ProgramError:
-            self._process.end()
+            self._server.end()
             raise
 
     def _table(self, table: str) -> _Table:
@@ -297,7 +298,7 @@ class Store:
         """
         schema = _declared(columns, key, refuses)
         frame = _calls.declare(table, schema)
-        with self._process.lock:
+        with self._server.lock:
             self._tables.clear()
             try:
                 self._tell(frame)
@@ -363,7 +364,7 @@ class Store:
         page, has_more = first
         places: List[int] = []
         while page:
-            self._process.expect_open()
+            self._server.expect_open()
             yield page
             if left is not None:
                 left -= len(page)
@@ -372,7 +373,7 @@ class Store:
             if not places:
                 places = self._table(table).key_places()
             page, has_more = self._page(table, [page[-1][place] for place in places], left)
-        self._process.expect_open()
+        self._server.expect_open()
 
     def insert(self, table: str, *values: Value) -> None:
         """Insert one row, with a value for each column."""
@@ -395,7 +396,7 @@ class Store:
         """Make the calls that insert rows in a transaction, which is rolled back after an error if
         it is their own. Otherwise leave none of the rows after one.
         """
-        ahead = Ahead(self._process, keeps=not is_own)
+        ahead = self._server.ahead(keeps=not is_own)
         try:
             try:
                 self._is_reading = self._is_watched = True
@@ -405,11 +406,11 @@ class Store:
                 self._is_reading, self._is_watched = False, self._is_begun
             self._expect_done(ahead)
         except BaseException:
-            if not is_own and self._process.is_open:
+            if not is_own and self._server.is_open:
                 self._take_back(table, ahead.done())
             raise
 
-    def _expect_done(self, ahead: Ahead) -> None:
+    def _expect_done(self, ahead: Union[Ahead, Direct]) -> None:
         """Raise the error of the first call that was refused, with its number."""
         for number, answer in ahead.others():
             try:
@@ -424,7 +425,7 @@ class Store:
         """Delete the rows that these calls have inserted, or end the program, and with it the
         transaction, if that fails.
         """
-        back = Ahead(self._process)
+        back = self._server.ahead()
         try:
             places = self._table(table).key_places() if frames else []
             rows = map(_calls.inserted_row, frames)
@@ -435,7 +436,7 @@ class Store:
         except TransactionEnded:
             pass
         except BaseException:
-            self._process.end()
+            self._server.end()
             raise
 
     def update(self, table: str, values: Mapping[str, Value], where: Mapping[str, Value]) -> None:
@@ -444,7 +445,7 @@ class Store:
         The row is read, and written whole.
         """
         changed, named = _calls.named_fields(table, values), _calls.named_fields(table, where)
-        with self._process.lock:
+        with self._server.lock:
             try:
                 known = self._table(table)
                 known.expect(changed)
@@ -461,7 +462,7 @@ class Store:
     def delete(self, table: str, where: Mapping[str, Value]) -> None:
         """Delete the row whose key columns have the values of `where`."""
         named = _calls.named_fields(table, where)
-        with self._process.lock:
+        with self._server.lock:
             try:
                 key = self._table(table).key(named)
             except Interrupted as error:
@@ -480,13 +481,13 @@ class Store:
 
     def _begin(self, block: _Block) -> None:
         """Begin the transaction of a block, and hold the lock until it ends."""
-        self._process.lock.acquire()
+        self._server.lock.acquire()
         try:
             self._expect_allowed(False)
             if self._is_begun:
                 raise RuntimeError("a transaction is open")
         except BaseException:
-            self._process.lock.release()
+            self._server.lock.release()
             raise
         try:
             self._owner, self._block = _task(), weakref.ref(block)
@@ -512,20 +513,20 @@ class Store:
                     self._roll_back()
             finally:
                 if not self._is_over:
-                    self._process.end()
+                    self._server.end()
                 self._forget()
 
     def _forget(self) -> None:
         """Forget the transaction, which has ended."""
         self._is_begun, self._owner, self._is_watched = False, None, False
         self._tables.clear()
-        self._process.lock.release()
+        self._server.lock.release()
 
     def _roll_back(self) -> None:
         """Roll back the transaction, if one is open."""
         for _ in range(_TRIES):
             try:
-                _calls.read_done(self._process.ask(_calls.ROLL_BACK))
+                _calls.read_done(self._server.ask(_calls.ROLL_BACK))
             except NoTransaction:
                 pass
             except MemoryError:
@@ -540,7 +541,7 @@ class Store:
 
     def _unfinished(self, error: KeyboardInterrupt) -> Interrupted:
         """Return what is raised if a call was interrupted before its last part."""
-        is_known = self._process.is_open and getattr(error, "is_done", False) is not None
+        is_known = self._server.is_open and getattr(error, "is_done", False) is not None
         return Interrupted(False if is_known else None)
 
     def apply(
@@ -624,12 +625,25 @@ class Store:
         name in another case, that is ValueError. What the database refuses is `sqlite3.Error`, and
         nothing is copied.
         """
-        with self._process.lock:
+        with self._server.lock:
             try:
                 schema = self.schema(table)
                 _exchange.write_rows(connection, table, schema, self.rows(table))
             except KeyboardInterrupt as error:
                 raise self._unfinished(error) from error
+
+    def to_bytes(self) -> bytes:
+        """Return the bytes of a database file with the tables of a store of `from_bytes`.
+
+        That of another store raises ValueError, since it has its file. An open transaction raises
+        `TransactionOpen`. A session goes on.
+        """
+        server = self._server
+        if not isinstance(server, Memory):
+            raise ValueError("the store is not one of from_bytes")
+        with server.lock:
+            self._expect_allowed(False)
+            return server.to_bytes()
 
     def undo_stack(
         self,
@@ -657,6 +671,16 @@ class Store:
         `SessionOpen`.
         """
         return Session(self, tables)
+
+
+def from_bytes(file: Bytes = b"") -> Store:
+    """Open the store in the bytes of a database file that has no log, in this process, without a
+    program. No bytes make a new store.
+
+    It is in memory, and `Store.to_bytes` returns what it has. It belongs to the thread that opens
+    it: a call from another one raises RuntimeError. A file of another kind raises `StoreError`.
+    """
+    return Store(Memory(as_bytes(file)), "from_bytes")
 
 
 def path_word(path: Path) -> bytes:
