@@ -14,7 +14,7 @@ use Rattle.cs_store.specs.Opening.{OpensFiles}
 use Rattle.cs_store.specs.Store.{tables_in}
 use Rattle.cs_store.proofs.LeftLemmas.{left_opens}
 use Rattle.cs_store.proofs.OpeningLemmas.{new_opens}
-use Rattle.cs_calls_memory.specs.Hosting.{HoldsIn, IsFoundIn, MemoryStore}
+use Rattle.cs_calls_memory.specs.Hosting.{HoldsIn, IsOpenedIn, LastsAsShown, MemoryStore}
 
 -- what is over a disk that never takes a wrong answer as true reads back what was written
 pub clean_files : {D : Type 0} {g : Ghosts D} → ((disk : D) → g.is_clean disk ≡ true) → (it : FileStore D g) → IsClean (view it)
@@ -27,14 +27,15 @@ holds_opens held image new (inl left) opens = left_opens held image new left ope
 holds_opens held image new (inr none) opens = new_opens image new none.0 opens ∙ sym none.1
 
 -- and a crash leaves only these
-pub found_in : (image : Image) (store : MemoryStore) → OpensFiles image (file_state store)
-    → (IsTrue (file_state store).is_open → LeavesOnly (λ left. left ≡ tables_in (file_state store).committed) (file_state store)) → IsFoundIn image store
-found_in image store opens leaves = record {
+pub shown_lasts : (image : Image) (store : MemoryStore) → OpensFiles image (file_state store)
+    → (IsTrue (file_state store).is_open → LeavesOnly (λ left. left ≡ tables_in (file_state store).committed) (file_state store)) → LastsAsShown store
+shown_lasts image store opens leaves =
+    subst (λ (t : State). LeavesOnly (λ left. left ≡ t) (file_state store)) (ap tables_in opens.at_rest.committed) (leaves opens.at_rest.is_open)
+
+pub opened_in : (image : Image) (store : MemoryStore) → OpensFiles image (file_state store)
+    → (IsTrue (file_state store).is_open → LeavesOnly (λ left. left ≡ tables_in (file_state store).committed) (file_state store)) → IsOpenedIn image store
+opened_in image store opens leaves = record {
   opens = opens;
-  shows = shows;
-  leaves = λ held holds.
-      subst (λ (t : State). LeavesOnly (λ left. left ≡ t) (file_state store)) (ap tables_in opens.at_rest.committed ∙ shows held holds) (leaves opens.at_rest.is_open);
+  shows = λ held holds. holds_opens held image (file_state store) holds opens;
+  lasts = shown_lasts image store opens leaves;
 }
-  where
-    shows : (held : State) → HoldsIn held image → tables_in (file_state store).now ≡ held
-    shows held holds = holds_opens held image (file_state store) holds opens

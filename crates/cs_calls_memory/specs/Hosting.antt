@@ -41,7 +41,7 @@ MemoryService = Service (FileStore MemoryFile ghosts)
 abbrev pub image_of : Files MemoryFile → Image
 image_of files = record { log = bytes_of files.log; db = bytes_of files.db }
 
--- files hold a store with these tables, or there is no byte, and no table
+-- files hold a store with these tables, or the database file has no byte, and there is no table
 abbrev pub HoldsIn : State → Image → Type 0
 HoldsIn held image = IsLeftIn held image ⊎ ((image.db ≡ []) × (held ≡ map.empty))
 
@@ -75,21 +75,26 @@ HasTransaction (Closed closed) = ⊥
 
 -- ---- opening and closing
 
+-- the tables that a store shows last of it
+abbrev pub LastsAsShown : MemoryStore → Type 0
+LastsAsShown store = LeavesOnly (λ left. left ≡ tables_in (file_state store).now) (file_state store)
+
 -- the store was opened in the bytes of a database file without a log, and no session is open
 pub record IsOpenedFrom (file : List ℕ) (host : MemoryHost) : Type 0 where
   pub store : MemoryStore
   pub is : host ≡ Open (AtRest store None)
   pub opens : OpensFiles (alone file) (file_state store)
+  pub lasts : LastsAsShown store
 
--- the store that is found in files shows the tables that they hold, and these last of it
-pub record IsFoundIn (image : Image) (store : MemoryStore) : Type 0 where
+-- the store that is opened in files shows the tables that they hold
+pub record IsOpenedIn (image : Image) (store : MemoryStore) : Type 0 where
   pub opens : OpensFiles image (file_state store)
   pub shows : (held : State) → HoldsIn held image → tables_in (file_state store).now ≡ held
-  pub leaves : (held : State) → HoldsIn held image → LeavesOnly (λ left. left ≡ held) (file_state store)
+  pub lasts : LastsAsShown store
 
--- a service is over that store, with the session of the host
+-- a service is over the store that is opened in the files, with the session of the host
 abbrev pub Opens : ClosedStore → MemoryService → Type 0
-Opens closed (AtRest store session) = IsFoundIn (image_of closed.files) store × (session ≡ closed.session)
+Opens closed (AtRest store session) = IsOpenedIn (image_of closed.files) store × (session ≡ closed.session)
 Opens closed (InTransaction transaction session written) = ⊥
 
 -- the store of a service is closed: its files hold the tables that last of it
@@ -124,7 +129,8 @@ pub record Carries (old : MemoryHost) (call sent : List ℕ) (new : MemoryHost) 
   pub gives : Gives over_files service call sent after
   pub settles : Settles after new
 
--- a closed store is not opened, since memory ran out or the database refused: it stays, and the call is refused
+-- A closed store is not opened: it stays, and the call is refused with that. If tables last of it, the reason is memory or
+-- the database.
 pub record StaysClosed (old : MemoryHost) (sent : List ℕ) (new : MemoryHost) : Type 0 where
   pub closed : ClosedStore
   pub was : Closed closed ≡ old

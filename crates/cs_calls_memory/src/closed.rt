@@ -53,7 +53,8 @@ impl ClosedStore {
     ///
     /// # Errors
     ///
-    /// `StoreFault` if the database refuses, and `NoMemory` if out of memory.
+    /// `StoreFault` if the database refuses, also if memory runs out as a file grows, and `NoMemory` if memory runs out
+    /// elsewhere.
     pub(crate) fn open(
         self,
         alloc: Global,

@@ -1,11 +1,11 @@
 //! The files of a store in memory that is closed.
-ghost use Rattle.std.specs.Prelude.{◌≡◌, [], IfErr, IfOk, OnOk};
+ghost use Rattle.std.specs.Prelude.{◌≡◌, [], IfErr, IfOk, OnErr, OnOk};
 ghost use Rattle.sqlite.specs.Files.{file_state};
 ghost use Rattle.cs_value.specs.State.{State};
 ghost use Rattle.cs_rows.specs.Faults.{IsResource};
 ghost use Rattle.cs_store.specs.Crash.{LeavesOnly};
 ghost use Rattle.cs_store_memory.specs.Memory.{HasTables, bytes_of};
-ghost use Rattle.cs_calls_memory.specs.Hosting.{HoldsIn, IsFoundIn, image_of};
+ghost use Rattle.cs_calls_memory.specs.Hosting.{HoldsIn, IsOpenedIn, image_of};
 
 use cs_store::{Store, StoreError};
 use cs_store_memory::{MemoryFile, MemoryStore, close_file};
@@ -35,7 +35,7 @@ pub(crate) fn copy_of(alloc: Global, bytes: &[u8]) -> Result<MemoryFile, StoreEr
     }
 }
 
-/// Returns the files of a store, in which no transaction is open.
+/// Returns the files of a store. No transaction is open in it.
 pub(crate) fn files_of(store: MemoryStore) -> Files<MemoryFile>
     ensures { (held : State) → LeavesOnly (λ left. left ≡ held) (file_state store) → HoldsIn held (image_of result) }
 {
@@ -46,9 +46,10 @@ pub(crate) fn files_of(store: MemoryStore) -> Files<MemoryFile>
 ///
 /// # Errors
 ///
-/// `StoreFault` if the database refuses, and `NoMemory` if out of memory.
+/// `StoreFault` if the database refuses, also if memory runs out as a file grows, and `NoMemory` if memory runs out
+/// elsewhere.
 pub(crate) fn open_copy(alloc: Global, files: &Files<MemoryFile>) -> Result<MemoryStore, StoreError>
-    ensures found { IfOk result (IsFoundIn (image_of files.now)) }
+    ensures found { IfOk result (IsOpenedIn (image_of files.now)) }
     ensures refused { (held : State) → HoldsIn held (image_of files.now) → IfErr result IsResource }
 {
     let copies = Files {
@@ -75,6 +76,7 @@ pub(crate) fn without_log(
 ) -> (Files<MemoryFile>, Result<(), StoreError>)
     ensures kept { (held : State) → HoldsIn held (image_of files) → HoldsIn held (image_of result.0) }
     ensures alone { OnOk result.1 (bytes_of result.0.log ≡ []) }
+    ensures same { OnErr result.1 (result.0 ≡ files) }
     ensures refused { (held : State) → HoldsIn held (image_of files) → IfErr result.1 IsResource }
 {
     if files.log.as_slice().is_empty() {

@@ -61,11 +61,13 @@ impl SaveFault {
     }
 }
 
-/// The number of an answer that refuses a call, and the codes that say that the database refused, or memory ran out.
+/// The number of an answer that refuses a call.
 const REFUSED: u8 = 11;
 
+/// The code of a refusal by the database.
 const STORE_FAULT: u8 = 38;
 
+/// The code of a refusal for want of memory.
 const NO_MEMORY: u8 = 60;
 
 /// Returns whether an answer says that the database refused or memory ran out, so that the store may be shut.
@@ -109,7 +111,7 @@ impl MemoryHost {
     /// # Errors
     ///
     /// 37 DamagedStore only if the file is a database that is no store. 38 StoreFault if it is no database, or the
-    /// database refuses, and 60 NoMemory if out of memory.
+    /// database refuses, also if memory runs out as a file grows, and 60 NoMemory if memory runs out elsewhere.
     pub fn open(alloc: Global, file: &[u8]) -> Result<MemoryHost, StoreError>
         ensures opened { IfOk result (IsOpenedFrom file.now) }
         ensures found { (held : State) → FindsTables held file.now → IfOk result (λ host. Lasts host held) }
@@ -129,7 +131,9 @@ impl MemoryHost {
         }
     }
 
-    /// Carries out the call that the bytes are, and returns the bytes of its answer, as [`answer_call`] does.
+    /// Carries out the call that the bytes are, and returns the bytes of its answer, as [`answer_call`] does. A closed
+    /// store is opened first. If that fails, the answer is a refusal with 38 StoreFault or 60 NoMemory, whatever the call
+    /// is, and the store stays closed.
     ///
     /// # Errors
     ///
@@ -152,17 +156,20 @@ impl MemoryHost {
         }
     }
 
-    /// Returns the bytes of a database file that has no log, with the tables of the store. The store stays.
+    /// Returns the bytes of a database file that has no log, with the tables of the store. The store keeps its tables and
+    /// its session, and is closed.
     ///
     /// # Errors
     ///
-    /// `TransactionOpen` while a transaction is open. `StoreFault` if the database refuses, and `NoMemory` if out of
-    /// memory.
+    /// `TransactionOpen` while a transaction is open. `StoreFault` if the database refuses, also if memory runs out as a
+    /// file grows, and `NoMemory` if memory runs out elsewhere. The store keeps its tables and its session.
     pub fn to_bytes(&mut self, alloc: Global) -> Result<Vec<u8>, SaveFault>
         ensures made { (held : State) → Lasts self.old held → IfOk result (λ bytes. HasTables held bytes.items) }
         ensures kept { (held : State) → Lasts self.old held → Lasts self.new held }
         ensures session { session_of self.new ≡ session_of self.old }
         ensures inside { HasTransaction self.old → (result ≡ Err InTransaction) × (self.new ≡ self.old) }
+        ensures outside { HasTransaction self.new → HasTransaction self.old }
+        ensures busy { result ≡ Err InTransaction → HasTransaction self.old }
         ensures refused { (held : State) → Lasts self.old held → IfErr result (RefusesSaving self.old) }
     {
         match self.take(alloc).close() {

@@ -1,26 +1,18 @@
 -- The store that a handle has, where it is worked on in place.
-use Rattle.std.proofs.Common.{◌≡◌, ℤ, ap, sym, subst, ◌∙◌}
-use Rattle.std.specs.Prelude.{Option, Some, pos}
+use Rattle.std.proofs.Common.{◌≡◌, ap, sym, ◌∙◌}
+use Rattle.std.specs.Prelude.{Some, pos}
 use Rattle.cs_rows.specs.declared.fault.StoreError.{StoreError}
 use Rattle.cs_rows.specs.declared.fault.StoreError.TheVariants.{TableExists, NoTable, BadSchema, KeyTaken, NoRow, RowWidth, NullInKey, NotNull, DamagedStore, StoreFault, NoMemory}
 use Rattle.cs_rows.specs.Faults as stores
-use Rattle.cs_calls_memory.specs.declared.host.SaveFault.{SaveFault}
-use Rattle.cs_calls_memory.specs.Hosting.{RefusesSaving, code_of}
 use Rattle.vollikash.specs.declared.answer.TheConstants.{OK}
 use Rattle.vollikash.specs.declared.handle.Handle.{Handle}
 use Rattle.vollikash.specs.declared.held.Held.{Held}
 use Rattle.vollikash.specs.declared.held.OpenStore.{OpenStore}
-use Rattle.vollikash.specs.Stores.{RefusesSavingOf, store_in}
+use Rattle.vollikash.specs.Stores.{store_in}
 
 -- it is the one that was lent
 pub was_open : (handle tested : Handle) (lent : Held) (store : OpenStore) → tested ≡ handle → Some lent ≡ tested.value → lent.store ≡ Some store → store_in handle.value ≡ Some store
 was_open handle tested lent store same value is = sym (ap store_in (value ∙ ap (λ (h : Handle). h.value) same)) ∙ is
-
--- so it is refused as that is
-pub refuses_open : (old : Option OpenStore) (store : OpenStore) (code shown : ℤ) → old ≡ Some store → shown ≡ code → (fault : SaveFault) → RefusesSaving store.host fault → code ≡ pos (code_of fault)
-    → RefusesSavingOf old shown
-refuses_open old store code shown was same fault refuses told =
-    subst (λ (o : Option OpenStore). RefusesSavingOf o shown) (sym was) (fault, refuses, same ∙ told)
 
 -- no error has the number of success
 pub error_coded : (error : StoreError) → pos (stores.code_of error) ≡ OK → ⊥

@@ -1,5 +1,5 @@
 -- `store::vollikash_store_call`: the store that is open answers.
-use Rattle.std.proofs.Common.{rules, w32, refl, sym, ◌∙◌}
+use Rattle.std.proofs.Common.{inl, inr, rules, w32, refl, sym, ◌∙◌}
 use Rattle.std.proofs.lemmas.Int.{to_z-of_z}
 use Rattle.vollikash.proofs.StoreLemmas.{was_open}
 use Rattle.vollikash.proofs.store.vollikash_store_call.Goals as goal
@@ -23,6 +23,14 @@ returns-in-Some-clause-refused c is =
       is_open = refl;
       answers = (c.call.ensures.refused (λ ok. let both = sym ok ∙ code in cc)).1;
     }
+
+pub returns-in-Some-clause-codes : goal.returns-in-Some-clause-codes
+returns-in-Some-clause-codes c =
+    let code = to_z-of_z w32 c.call.result (search rules) in
+    elim c.call.ensures.codes [
+      | inl ok ↦ inl (code ∙ ok)
+      | inr memory ↦ inr (inl (code ∙ memory))
+    ]
 
 pub returns-in-Some-clause-none : goal.returns-in-Some-clause-none
 returns-in-Some-clause-none c not = c.call.ensures.none (λ ok. not (to_z-of_z w32 c.call.result (search rules) ∙ ok))
