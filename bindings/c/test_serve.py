@@ -245,6 +245,30 @@ class Stores(unittest.TestCase):
 class Served(unittest.TestCase):
     """Calls that are served."""
 
+    def setUp(self):
+        folder = tempfile.TemporaryDirectory()
+        self.addCleanup(folder.cleanup)
+        self.path = pathlib.Path(folder.name) / "store"
+
+    def test_other_tables_are_saved(self):
+        with contextlib.closing(sqlite3.connect(self.path)) as base:
+            base.executescript("CREATE TABLE other(a); INSERT INTO other VALUES(7)")
+        self.assertEqual(answers(SERVE, [DECLARE, insert(1, "x")], self.path), [(DONE,)] * 2)
+        self.assertEqual(answers(SERVE, [ALL], self.path), [(ROWS, [(1, "x")], False)])
+        with contextlib.closing(sqlite3.connect(self.path)) as base:
+            self.assertEqual(base.execute("SELECT * FROM other").fetchall(), [(7,)])
+
+    def test_stack_of_a_deep_schema(self):
+        """The schema has the deepest expressions that are read, and others that are too deep. The stack has 2 MiB."""
+        with contextlib.closing(sqlite3.connect(self.path)) as base:
+            for terms in (*range(280, 300), 990):
+                base.execute(f"CREATE TABLE t{terms}(a, CHECK(a{'+1' * terms} > 0))")
+        ran = subprocess.run(
+            [SERVE, self.path], input=frame(DECLARE), capture_output=True, check=False,
+            preexec_fn=lambda: resource.setrlimit(resource.RLIMIT_STACK, (2 << 20, 2 << 20)),
+        )
+        self.assertEqual((ran.returncode, ran.stderr), (0, b""))
+
     def test_answers_are_those_of_the_program(self):
         wanted = answers(CALLS_PROGRAM, SCRIPT)
         for serve in (SERVE, SANITIZED):

@@ -19,13 +19,13 @@
 **     holds of other threads, signal handlers and processes that share the memory. So
 **     one call at a time uses a group or a store.
 **   * A group and a store begin as {0}. Only the calls below change them. They may be
-**     moved to another place, but of two copies only one is used after that. Only the
-**     thread that opened a store uses it.
+**     moved to another place, but of two copies only one is used after that. None is
+**     passed as the other. Only the thread that opened a store uses it.
 **   * `out`, `written`, `answered`, `fault`, `value` and `values` may be uninitialized: no
 **     call reads them. So may the `change` of vollikash_next while `place` is 0. All else
 **     is initialized.
 **   * No call is made in a signal handler, or in the child of a fork of a process
-**     with threads. The stack has 128 KiB left.
+**     with threads. The stack has 128 KiB left, and 2 MiB for the calls on a store.
 **   * malloc, realloc and free belong to one allocator, whose blocks are aligned to
 **     16 bytes.
 **
@@ -34,7 +34,7 @@
 ** allocate at most some hundred times the bytes of all files and four kilobytes, and so
 ** much only for tables of one change. bindings/c/memory.c measures both. A call frees all
 ** of it before it returns, but a group keeps what it has until vollikash_group_close, and
-** a store until vollikash_store_close. What a store takes is in docs/PERFORMANCE.md.
+** a store until vollikash_store_close: its files and up to 8 MB of their pages.
 ** vollikash_next, vollikash_value, vollikash_values and vollikash_message allocate
 ** nothing. A text is made in memory first, and grows with the length of a table's name
 ** times the number of its changes. No call keeps other state, so several threads can call
@@ -90,8 +90,9 @@ enum vollikash_code {
     VOLLIKASH_NULL_KEY = 17,        /* a key column is NULL */
     VOLLIKASH_DUPLICATE_KEY = 18,   /* a key is in a table twice */
 
-    VOLLIKASH_DAMAGED_STORE = 37,   /* the file is a database that is no store */
-    VOLLIKASH_STORE_FAULT = 38,     /* the file is no database, or the database refuses */
+    VOLLIKASH_DAMAGED_STORE = 37, /* the file is a database that is no store */
+    VOLLIKASH_STORE_FAULT = 38,   /* the file is no database, or the database refuses, also if
+                                  ** memory runs out as a file grows */
 
     VOLLIKASH_SCHEMA = 43,    /* a table has other columns or another key than in an earlier file */
     VOLLIKASH_NO_MEMORY = 60, /* memory ran out */
@@ -144,12 +145,12 @@ static inline int vollikash_class(int code)
 int vollikash_message(int code, char *out, size_t room, size_t *written) VOLLIKASH_NONNULL;
 
 /*
-** The report of a call. Every call fills it in.
+** The report of a call. Every call that takes one fills it in.
 */
 struct vollikash_fault {
     int code;     /* what the call returns */
     int file;     /* the file at fault: 1 the first or only one, 2 the second and so on; 0 for
-                  ** OK, DONE, NO_ROOM, RANGE and NO_MEMORY */
+                  ** OK, DONE, NO_ROOM, RANGE, NO_MEMORY and of a store */
     size_t place; /* for 1 to 18 a byte offset in that file; for SCHEMA the zero-based
                   ** index, in that file, of the table that differs; else 0 */
 };
@@ -387,55 +388,60 @@ int vollikash_sql(const uint8_t *file, size_t length, uint8_t *out, size_t room,
 
 /*
 ** A store in memory: its tables are read and changed by the calls of docs/CALLS.md, each
-** without its frame. {0} is one that is not open:
+** without its frame. {0} is one that is not open. Without the tests of what is returned:
 **
 **     struct vollikash_store store = {0};
 **     vollikash_store_open(&store, file, length, &fault);
 **     vollikash_store_call(&store, call, call_length, &answered);
-**     uint8_t *answer = malloc(answered + 1);
-**     vollikash_store_answer(&store, answer, answered, &written);
+**     vollikash_store_answer(&store, answer, room, &written);
 **     ..
 **     vollikash_store_close(&store);
 **
-** A call on one that is not open returns NOT_OPEN, but for vollikash_store_close. Nothing
-** is kept after the program, but for the bytes that vollikash_store_save makes.
+** On one that is not open, `call`, `answer` and `save` return NOT_OPEN. Nothing lasts but
+** the bytes that vollikash_store_save makes.
 */
 struct vollikash_store {
     void *at; /* what the store has, or NULL; only the calls use it */
 };
 
 /*
-** Opens the store in the bytes of a database file that has no log, as `changeset`,
-** sqlite3 and vollikash_store_save write it; "" with length 0 makes a new one. The file is
-** copied. If the store was open, what it had is freed. Returns OK; DAMAGED_STORE if the
-** file is a database that is no store; STORE_FAULT if it is no database or the database
-** refuses; or NO_MEMORY. Then the store stays what it was. `fault` has no file and no
-** place. It takes time in proportion to the file.
+** Opens the store in the bytes of a database file, as vollikash_store_save makes it, and
+** as `changeset` and sqlite3 leave it without a log; "" with length 0 makes a new one. What
+** a log next to the file has is not in it. The file is copied. If a store was open, it is
+** freed. Returns OK; DAMAGED_STORE if the file is a database that is no store; STORE_FAULT
+** if it is no database or the database refuses; or NO_MEMORY. After an error what was open
+** stays as it was. `fault` has the code, and no file and place. It takes time in
+** proportion to the file.
 */
 int vollikash_store_open(struct vollikash_store *store, const uint8_t *file, size_t length,
                          struct vollikash_fault *fault) VOLLIKASH_NONNULL;
 
 /*
-** Carries out one call, and keeps its answer until the next one. `answered` gets the
-** length of the answer. Returns OK, also if the answer is that the call is refused;
-** NOT_OPEN; or NO_MEMORY: then there is no answer, `answered` is 0, and the call was not
-** carried out, or it was refused.
+** Carries out one call of any length, and keeps its answer until the next one. `answered`
+** gets the length of the answer. Returns OK, also if the answer is that the call is
+** refused; NOT_OPEN; or NO_MEMORY: then there is no answer, `answered` is 0, and the call
+** was not carried out, or it was refused. After NO_MEMORY for *commit* or *roll back* send
+** *roll back*.
 */
 int vollikash_store_call(struct vollikash_store *store, const uint8_t *call, size_t length,
                          size_t *answered) VOLLIKASH_NONNULL;
 
 /*
-** Puts the answer to the last call into `out`. It can be asked for again. Before the first
-** call it has no bytes. Errors: NO_ROOM, NOT_OPEN.
+** Puts the answer to the last call into `out`, and its length into `written`. It can be
+** asked for again. Before the first call, and after NO_MEMORY, it has no bytes. Returns
+** OK; NO_ROOM, with the length that is needed; or NOT_OPEN. Unless it returns OK, `out` is
+** unchanged.
 */
 int vollikash_store_answer(struct vollikash_store *store, uint8_t *out, size_t room,
                            size_t *written) VOLLIKASH_NONNULL;
 
 /*
-** Makes a database file that has the tables of the store, and no log. The store stays
-** open, its session too. Errors: NO_ROOM, NOT_OPEN, TRANSACTION_OPEN, STORE_FAULT,
-** NO_MEMORY. It takes time in proportion to the store, and so does the next call; if
-** there is none between, saving again takes only a copy.
+** Puts the bytes of a database file that has the tables of the store, and no log, into
+** `out`, and their number into `written`. The store keeps its tables, its session and the
+** answer. Returns OK; NO_ROOM, with the length that is needed; NOT_OPEN; TRANSACTION_OPEN;
+** STORE_FAULT; or NO_MEMORY. Unless it returns OK, `out` is unchanged. It takes time in
+** proportion to the store, and so does the next call. Saved again without a call between,
+** the bytes are the same, and are only copied.
 */
 int vollikash_store_save(struct vollikash_store *store, uint8_t *out, size_t room,
                          size_t *written) VOLLIKASH_NONNULL;

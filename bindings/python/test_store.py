@@ -1416,6 +1416,131 @@ class Loads(Folder):
             self.assertEqual((caught.exception.row, store.count("t")), (2, 0))
 
 
+class Memory(unittest.TestCase):
+    """Stores in memory, in this process."""
+
+    def setUp(self):
+        self.store = vollikash.from_bytes()
+        self.addCleanup(self.store.close)
+        self.store.create("t", ["a", "b"], key=["a"])
+
+    def test_calls(self):
+        self.store.insert("t", 1, "x")
+        self.store.put("t", 2, b"y")
+        self.store.update("t", {"b": None}, where={"a": 2})
+        self.assertEqual(self.store.get("t", 2), (2, None))
+        with self.assertRaises(vollikash.KeyTaken) as caught:
+            self.store.insert("t", 1, "y")
+        self.assertEqual((caught.exception.table, caught.exception.key), ("t", (1,)))
+        self.store.apply(FILE, conflict="replace")
+        self.store.delete("t", {"a": 2})
+        self.assertEqual(list(self.store.rows("t")), [(1, "x")])
+        self.assertEqual(self.store.tables(), ["t"])
+
+    def test_many_rows(self):
+        """A row that is refused takes back those before it, and rows are read in pages."""
+        self.store.insert_many("t", ((key, "x") for key in range(2000)))
+        for is_own in (True, False):
+            with contextlib.nullcontext() if is_own else self.store.transaction():
+                with self.assertRaises(vollikash.KeyTaken) as caught:
+                    self.store.insert_many("t", [(5000, "y"), (7, "y"), (5001, "y")])
+                self.assertEqual(caught.exception.row, 2)
+                self.assertEqual(self.store.count("t"), 2000)
+        self.assertEqual(sum(1 for _ in self.store.rows("t")), 2000)
+
+    def test_decided_conflict_and_session(self):
+        self.store.insert("t", 1, "y")
+        with self.store.session("t") as session:
+            report = self.store.apply(FILE, on_conflict=lambda conflict: "replace")
+            self.assertEqual(report.conflicts[0].key, (1,))
+            self.assertFalse(session.is_empty())
+            self.store.to_bytes()
+            session.undo()
+        self.assertEqual(self.store.get("t", 1), (1, "y"))
+
+    def test_bytes(self):
+        """The bytes are a database file, which SQLite and another store read."""
+        self.store.insert("t", 1, "x")
+        data = self.store.to_bytes()
+        self.assertEqual(self.store.to_bytes(), data)
+        self.store.insert("t", 2, "y")
+        with tempfile.TemporaryDirectory() as folder:
+            path = pathlib.Path(folder) / "store"
+            path.write_bytes(data)
+            with contextlib.closing(sqlite3.connect(path)) as base:
+                self.assertEqual(base.execute("PRAGMA integrity_check").fetchone(), ("ok",))
+            with vollikash.open(path) as store:
+                self.assertEqual(list(store.rows("t")), [(1, "x")])
+                with self.assertRaises(ValueError):
+                    store.to_bytes()
+            with vollikash.from_bytes(bytearray(path.read_bytes())) as store:
+                self.assertEqual(list(store.rows("t")), [(1, "x")])
+        self.assertEqual(self.store.count("t"), 2)
+
+    def test_transaction_is_not_saved(self):
+        with self.store.transaction():
+            self.store.insert("t", 1, "x")
+            with self.assertRaises(vollikash.TransactionOpen):
+                self.store.to_bytes()
+        self.assertEqual(self.store.count("t"), 1)
+        with self.assertRaises(ZeroDivisionError), self.store.transaction():
+            self.store.insert("t", 2, "x")
+            raise ZeroDivisionError
+        self.assertEqual(self.store.count("t"), 1)
+
+    def test_refused_bytes(self):
+        with tempfile.TemporaryDirectory() as folder:
+            path = pathlib.Path(folder) / "store"
+            with contextlib.closing(sqlite3.connect(path)) as base:
+                base.execute("CREATE TABLE rec(a)")
+            with self.assertRaises(vollikash.DamagedStore):
+                vollikash.from_bytes(path.read_bytes())
+        with self.assertRaises(StoreFault):
+            vollikash.from_bytes(b"no database")
+        with self.assertRaises(TypeError):
+            vollikash.from_bytes("text")
+
+    def test_another_thread(self):
+        with concurrent.futures.ThreadPoolExecutor(1) as pool:
+            for call in (self.store.tables, self.store.to_bytes, self.store.close):
+                with self.assertRaises(RuntimeError):
+                    pool.submit(call).result()
+        self.assertEqual(self.store.tables(), ["t"])
+
+    def test_closed(self):
+        self.store.close()
+        self.store.close()
+        for call in (self.store.tables, self.store.to_bytes):
+            with self.assertRaises(ProgramError):
+                call()
+        store = vollikash.from_bytes()
+        with self.assertWarns(ResourceWarning):
+            del store
+
+    def test_interrupts(self):
+        """Ctrl-C at random moments: the error says whether the row is there."""
+        def interrupt(number, frame):
+            raise KeyboardInterrupt
+
+        before = signal.signal(signal.SIGALRM, interrupt)
+        self.addCleanup(signal.signal, signal.SIGALRM, before)
+        chance, told = random.Random(7), 0
+        for key in range(400):
+            is_done = None
+            try:
+                signal.setitimer(signal.ITIMER_REAL, chance.uniform(1e-6, 6e-5))
+                self.store.insert("t", key, "x")
+                signal.setitimer(signal.ITIMER_REAL, 0)
+            except Interrupted as error:
+                is_done, told = error.is_done, told + 1
+            except KeyboardInterrupt:
+                pass
+            signal.setitimer(signal.ITIMER_REAL, 0)
+            if is_done is not None:
+                self.assertEqual(self.store.get("t", key) is not None, is_done)
+        self.assertGreater(told, 0)
+
+
 if __name__ == "__main__":
     if sys.argv[1:2] and not sys.argv[1].startswith("-"):
         PROGRAM = pathlib.Path(sys.argv.pop(1)).resolve()
