@@ -101,7 +101,8 @@ def store(
     call: str, name: str, theirs: str, why: str, why_memory: str = UNKNOWN, state: str = ""
 ) -> Kind:
     """Return the kind of a call of a store from Python."""
-    ours, theirs = f"./package ours {call} store COUNT", f"./package sqlite {theirs} base COUNT"
+    ours = f"./package ours {call} store COUNT"
+    theirs = theirs and f"./package sqlite {theirs} base COUNT"
     return Kind(f"`Store.{name}", ours, theirs, (INSERTS,), why, why_memory, MANY, state)
 
 
@@ -152,6 +153,10 @@ KINDS = (
     store("insert_many", "insert_many`", "insert_many", SENDS),
     store("rows", "rows`", "rows", OPENS + ", which another process reads", LISTS, "full"),
     store("get", "get`", "get", OPENS + ", which another process reads", LISTS, "full"),
+    store("insert_in_process", "insert` in process", "insert_in_memory", IN_FILES),
+    store("rows_in_process", "rows` in process", "rows", OPENS, LISTS, "full"),
+    store("get_in_process", "get` in process", "get", OPENS, LISTS, "full"),
+    store("edit_in_process", "update` and undo in process", "", UNKNOWN),
     look("changes", theirs="./package sqlite changes file"),
     look("Builder"),
     look("write_json"),

@@ -93,6 +93,43 @@ def get(path: pathlib.Path, count: int) -> None:
             store.get("t", key)
 
 
+def in_process(path: pathlib.Path) -> vollikash.Store:
+    """Open the store of a file in this process, or a new one."""
+    return vollikash.from_bytes(path.read_bytes() if path.exists() else b"")
+
+
+def insert_in_process(path: pathlib.Path, count: int) -> None:
+    """Insert rows into a new table of a store in this process."""
+    with in_process(path) as store:
+        store.create("t", ["a", "b"], key=["a"])
+        for row in rows(count):
+            store.insert("t", *row)
+
+
+def read_rows_in_process(path: pathlib.Path, count: int) -> None:
+    """Read all rows of a store in this process."""
+    with in_process(path) as store:
+        exhaust(store.rows("t"))
+
+
+def get_in_process(path: pathlib.Path, count: int) -> None:
+    """Read each row of a store in this process by its key."""
+    with in_process(path) as store:
+        for key in range(count):
+            store.get("t", key)
+
+
+def edit_in_process(path: pathlib.Path, count: int) -> None:
+    """Fill stores of ten rows in this process, edit and undo them."""
+    for _ in range(count // 10):
+        with in_process(path) as store:
+            store.create("t", ["a", "b"], key=["a"])
+            store.insert_many("t", rows(10))
+            with store.session("t") as session:
+                store.update("t", {"b": "row"}, where={"a": 3})
+                session.undo()
+
+
 @contextlib.contextmanager
 def database(path: pathlib.Path) -> Iterator[sqlite3.Connection]:
     """Open a database in which each statement is a transaction."""
@@ -107,6 +144,11 @@ def sqlite_insert(path: pathlib.Path, count: int) -> None:
     with database(path) as base:
         for row in rows(count):
             base.execute("INSERT INTO t VALUES(?, ?)", row)
+
+
+def sqlite_insert_in_memory(path: pathlib.Path, count: int) -> None:
+    """Insert the same rows into a database in memory."""
+    sqlite_insert(pathlib.Path(":memory:"), count)
 
 
 def sqlite_insert_in_transaction(path: pathlib.Path, count: int) -> None:
@@ -153,7 +195,12 @@ WORKS: dict[tuple[str, str], Callable[[pathlib.Path, int], None]] = {
     ("ours", "insert_many"): insert_many,
     ("ours", "rows"): read_rows,
     ("ours", "get"): get,
+    ("ours", "insert_in_process"): insert_in_process,
+    ("ours", "rows_in_process"): read_rows_in_process,
+    ("ours", "get_in_process"): get_in_process,
+    ("ours", "edit_in_process"): edit_in_process,
     ("sqlite", "insert"): sqlite_insert,
+    ("sqlite", "insert_in_memory"): sqlite_insert_in_memory,
     ("sqlite", "insert_in_transaction"): sqlite_insert_in_transaction,
     ("sqlite", "insert_many"): sqlite_insert_many,
     ("sqlite", "rows"): sqlite_rows,

@@ -278,6 +278,10 @@ class Served(unittest.TestCase):
         """Each allocation of each call is refused, and the call made again."""
         self.assertEqual(answers(REFUSING, SCRIPT), answers(SERVE, SCRIPT))
 
+    def test_stores_of_several_threads(self):
+        """Each thread has its own, under the thread sanitizer."""
+        self.assertEqual(subprocess.run([HERE / "out/threads"], check=False).returncode, 0)
+
     def test_calls_from_a_seed(self):
         for serve in (SERVE, SANITIZED):
             ran = subprocess.run(
