@@ -2,7 +2,7 @@
 use Rattle.std.proofs.Common.{bytes_eq, ◌≡◌, ◌≢◌, ◌⊎◌, ◌<◌, ℕ, zero, suc, Bool, true, false, cond, List, [], ◌∷◌, ◌++◌, length, get_or, set, take, drop, ◌+◌, map, refl, sym, ap, ◌∙◌, subst, arith}
 use Rattle.std.specs.Prelude.{IfSome, is_some, Option, Result, Ok, Err, OnOk, IfErr, All}
 use Rattle.std.specs.List.{AllByRecursion}
-use Rattle.std.specs.Rc.{rc_str_bytes}
+use Rattle.std.specs.Prelude.{string_bytes}
 use Rattle.std.specs.Cmp.Lexicographic.{bytes_decides, same_text}
 use Rattle.std.proofs.lemmas.List.{append-nil, append_assoc, drop_more, get_or_default, length-map, map-append, map-set}
 use Rattle.std.proofs.Math.Seq.{map-set_same}
@@ -212,7 +212,7 @@ module _ (tables : List Attached) (name : List ℕ) (index : ℕ) (found : IsInd
   within_notes : index < length notes_of
   within_notes = rw (length-map tables attached_of) found.0
 
-  pub item_named : rc_str_bytes item.name ≡ name
+  pub item_named : string_bytes item.name ≡ name
   item_named = ap name_in is ∙ found.1 item
 
   -- what is written over keeps the names, and what was kept
@@ -277,15 +277,15 @@ module _ (tables : List Attached) (i : ℕ) (x : Attached) (lt : i < length tabl
   Copied copy count = map attached_of copy ≡ map unwritten (map attached_of (take count tables))
 
   -- none of those so far has the name of the next one
-  pub fresh_unwritten : AreApart (map attached_of tables) → (copy : List Attached) → Copied copy i → IsNewTable (map attached_of copy) (rc_str_bytes x.name)
+  pub fresh_unwritten : AreApart (map attached_of tables) → (copy : List Attached) → Copied copy i → IsNewTable (map attached_of copy) (string_bytes x.name)
   fresh_unwritten apart copy so =
       let before = AllPairs-map_before tables i x lt is attached_of Apart apart in
-      let Other : AttachedTable → Type 0 = λ t. t.name ≢ rc_str_bytes x.name in
+      let Other : AttachedTable → Type 0 = λ t. t.name ≢ string_bytes x.name in
       let notes = map attached_of (take i tables) in
       subst (All Other) (sym so) (All-from_recursion Other (map unwritten notes) (AllByRecursion-map Other unwritten notes (recursion_from_All Other notes before)))
 
   -- one more
-  pub unwritten_more : (copy new : List Attached) (name : List ℕ) (schema : SchemaData) → name ≡ rc_str_bytes x.name → schema ≡ x.schema → Copied copy i
+  pub unwritten_more : (copy new : List Attached) (name : List ℕ) (schema : SchemaData) → name ≡ string_bytes x.name → schema ≡ x.schema → Copied copy i
       → map attached_of new ≡ map attached_of copy ++ record { name = name; schema = schema; firsts = [] } ∷ [] → Copied new (i + 1)
   unwritten_more copy new name schema named same so pushed =
       rw (pushed, so, named, same, map_more_at tables i x lt is attached_of, map-append unwritten (map attached_of (take i tables)) (attached_of x ∷ [])) refl

@@ -1,18 +1,18 @@
 -- The meaning of types of the code.
 use Rattle.std.specs.Prelude.{◌≡◌, ◌≢◌, ℕ, false, List, [], ◌++◌, ◌<◌, length, get_or, is_some}
 use Rattle.std.specs.List.{AllByRecursion}
-use Rattle.std.specs.Rc.{rc_str_bytes}
+use Rattle.std.specs.Prelude.{string_bytes}
 use Rattle.cs_session_notes.specs.declared.attached.Attached.{Attached}
 use Rattle.cs_session_notes.specs.FirstImages.{AttachedTable, first_at}
 
 -- its name
 abbrev pub name_in : Attached → List ℕ
-name_in table = rc_str_bytes table.name
+name_in table = string_bytes table.name
 
 -- a table with all that is noted of it
 abbrev pub attached_of : Attached → AttachedTable
 attached_of table = record {
-  name = rc_str_bytes table.name;
+  name = string_bytes table.name;
   schema = table.schema;
   firsts = table.firsts.kept ++ table.firsts.pending;
 }
@@ -20,7 +20,7 @@ attached_of table = record {
 -- with what earlier calls noted
 abbrev pub kept_of : Attached → AttachedTable
 kept_of table = record {
-  name = rc_str_bytes table.name;
+  name = string_bytes table.name;
   schema = table.schema;
   firsts = table.firsts.kept;
 }

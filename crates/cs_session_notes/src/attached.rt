@@ -12,13 +12,11 @@ use crate::first_images::FirstImages;
 use cs_rows::Schema;
 use cs_value::{Key, NoMemory, Row};
 use std::alloc::Global;
-use std::rc::RcStr;
 
 /// A table that is attached.
 #[derive(Debug, Drop)]
 pub struct Attached {
-    // It shares its memory with the set of all names.
-    pub name: RcStr,
+    pub name: String,
     pub schema: Schema,
     pub firsts: FirstImages,
 }

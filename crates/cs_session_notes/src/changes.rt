@@ -1,6 +1,5 @@
 //! The net changes of tables.
-ghost use Rattle.std.specs.Prelude.{◌≡◌, ◌≢◌, false, map, filter_map, option_map, All, AllPairs, IfOk, IfErr, OnOk, IfSome, is_ok};
-ghost use Rattle.std.specs.Rc.{rc_str_bytes};
+ghost use Rattle.std.specs.Prelude.{◌≡◌, ◌≢◌, false, map, filter_map, option_map, All, AllPairs, IfOk, IfErr, OnOk, IfSome, is_ok, string_bytes};
 ghost use Rattle.cs_value.specs.State.{IsRowAt, row_at};
 ghost use Rattle.cs_wire.specs.Entry.{IsChange, IsEntry, key_of};
 ghost use Rattle.cs_group.specs.Net.{net_row_change as change_between};
@@ -60,7 +59,7 @@ fn table_changes<B: Rows>(
     requires attached { B.is_honest rows.old → HasAttached (B.state rows.old) (attached_of table.now) }
     ensures made { B.is_honest rows.new
         → IfOk result (λ group. group ≡ net_group (B.state rows.old) (attached_of table.now)) }
-    ensures of_table { IfOk result (λ group. IfSome group (λ g. g.header.name ≡ rc_str_bytes table.now.name)) }
+    ensures of_table { IfOk result (λ group. IfSome group (λ g. g.header.name ≡ string_bytes table.now.name)) }
     ensures same { B.is_honest rows.new → OnOk result (B.state rows.new ≡ B.state rows.old) }
     ensures refused { B.is_honest rows.new → IfErr result IsResource }
     ensures named { IfErr result IsChangesRefusal }
@@ -122,7 +121,7 @@ fn row_change<B: Rows>(
     requires fits { IfSome (option_map (λ r. r.now) former) (IsRowAt table.now.schema key.now) }
     requires attached { B.is_honest rows.old → HasAttached (B.state rows.old) (attached_of table.now) }
     ensures made { B.is_honest rows.new → IfOk result (λ change. change ≡ change_between table.now.schema.flags
-        (option_map (λ r. r.now) former.entry) (row_at (B.state rows.old) (rc_str_bytes table.now.name) key.now)) }
+        (option_map (λ r. r.now) former.entry) (row_at (B.state rows.old) (string_bytes table.now.name) key.now)) }
     ensures fits { IfOk result (λ change. IfSome change (λ c. IsChange table.now.schema.flags c
         × (key_of table.now.schema.flags c ≡ key.now))) }
     ensures same { B.is_honest rows.new → OnOk result (B.state rows.new ≡ B.state rows.old) }

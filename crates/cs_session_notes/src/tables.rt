@@ -19,21 +19,19 @@ use cs_value::{NoMemory, Row};
 use indexmap::IndexSet;
 use std::alloc::Global;
 use std::marker::Model;
-use std::rc::RcStr;
 
 /// The tables that are attached, in the order in which they were attached.
 #[derive(Debug, Drop)]
 pub struct AttachedTables {
     tables: Vec<Attached>,
     // The name of each, at its index.
-    names: IndexSet<RcStr>,
+    names: IndexSet<String>,
     // The indices of those in which the last call may have noted something.
     noted: Vec<usize>,
 }
 
 impl Model for AttachedTables {
-    ghost use Rattle.std.specs.Prelude.{◌≡◌, List, map};
-    ghost use Rattle.std.specs.Rc.{rc_str_bytes};
+    ghost use Rattle.std.specs.Prelude.{◌≡◌, List, map, string_bytes};
     ghost use Rattle.cs_session_notes.specs.declared.attached.Attached.{Attached};
     ghost use Rattle.cs_session_notes.specs.Views.{name_in, HaveNonePendingBut};
 
@@ -41,7 +39,7 @@ impl Model for AttachedTables {
 
     ghost view = { λ t. t.tables.items };
 
-    ghost invariant = { λ t. (map rc_str_bytes t.names.keys ≡ map name_in t.tables.items)
+    ghost invariant = { λ t. (map string_bytes t.names.keys ≡ map name_in t.tables.items)
         × HaveNonePendingBut t.noted.items t.tables.items };
 }
 
@@ -80,8 +78,8 @@ impl AttachedTables {
         ensures none_pending { AllByRecursion HasNonePending self.old → AllByRecursion HasNonePending self.new }
         ensures same { OnErr result (self.new ≡ self.old) }
     {
-        let name = RcStr::from_str(alloc, name)?;
-        let key = name.clone()?;
+        let key = String::from_str(alloc, name)?;
+        let name = String::from_str(alloc, name)?;
         let firsts = FirstImages::new(alloc);
         self.tables.reserve(1)?;
         self.names.insert(key)?;

@@ -9,6 +9,7 @@ use crate::tables::copy_of_row;
 use cs_rows::Written;
 use cs_value::NoMemory;
 use std::alloc::Global;
+use std::rc::RcStr;
 
 /// Returns the keys that tables note, each with the row that was there first.
 pub(crate) fn noted_writes(alloc: Global, tables: &[Attached]) -> Result<Vec<Written>, NoMemory>
@@ -28,7 +29,7 @@ fn append_writes(alloc: Global, table: &Attached, writes: &mut Vec<Written>) -> 
 {
     for (key, row) in table.firsts.iter() {
         writes.push(Written {
-            table: table.name.clone()?,
+            table: RcStr::from_str(alloc, table.name.as_str())?,
             key: key.copy(alloc)?,
             former: copy_of_row(alloc, row.as_ref())?,
         })?;
