@@ -20,7 +20,8 @@
 **     one call at a time uses a group or a store.
 **   * A group and a store begin as {0}. Only the calls below change them. They may be
 **     moved to another place, but of two copies only one is used after that. None is
-**     passed as the other. Only the thread that opened a store uses it.
+**     passed as the other. If several threads use one, a lock, a thread's start or its
+**     end orders their calls.
 **   * `out`, `written`, `answered`, `fault`, `value` and `values` may be uninitialized: no
 **     call reads them. So may the `change` of vollikash_next while `place` is 0. All else
 **     is initialized.

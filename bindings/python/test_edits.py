@@ -19,6 +19,7 @@ import unittest
 import unittest.mock
 
 import vollikash
+from transports import InProcess
 from vollikash import UNDEFINED, ChangesetError, ConflictError, Schema, StoreError
 
 HERE = pathlib.Path(__file__).resolve().parent
@@ -1244,6 +1245,32 @@ class Sizes(Folder):
             self.assertEqual(store.apply(deletes, ignore_noop=True).ignored, 20)
             self.assertEqual(store.revert(deletes).applied, 20)
             self.assertEqual(list(store.rows("t")), rows)
+
+
+class TextsInProcess(InProcess, Texts):
+    """The same, in this process."""
+
+
+class ReadsInProcess(InProcess, Reads):
+    """The same, in this process."""
+
+
+class TransactionsInProcess(InProcess, Transactions):
+    """The same, in this process, but for what is done by other programs."""
+
+    test_rows_that_are_taken_back = test_ended_transactions = None
+
+
+class StacksInProcess(InProcess, Stacks):
+    """The same, in this process."""
+
+
+class ConflictsInProcess(InProcess, Conflicts):
+    """The same, in this process."""
+
+
+class ExchangesInProcess(InProcess, Exchanges):
+    """The same, in this process."""
 
 
 if __name__ == "__main__":

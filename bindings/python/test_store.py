@@ -25,6 +25,7 @@ import unittest.mock
 import warnings
 
 import vollikash
+from transports import InProcess
 from vollikash import _calls
 from vollikash import (
     UNDEFINED, Busy, ChangesetError, Code, ConflictError, Interrupted, ProgramError, StoreError, StoreFault,
@@ -1500,12 +1501,19 @@ class Memory(unittest.TestCase):
         with self.assertRaises(TypeError):
             vollikash.from_bytes("text")
 
-    def test_another_thread(self):
+    def test_longest_call(self):
+        """A call has no limit, since there is no frame."""
+        text = "x" * 70_000_000
+        self.store.insert("t", 1, text)
+        self.assertEqual(self.store.get("t", 1), (1, text))
+
+    def test_another_thread_closes(self):
         with concurrent.futures.ThreadPoolExecutor(1) as pool:
-            for call in (self.store.tables, self.store.to_bytes, self.store.close):
-                with self.assertRaises(RuntimeError):
-                    pool.submit(call).result()
-        self.assertEqual(self.store.tables(), ["t"])
+            pool.submit(self.store.insert, "t", 1, "x").result()
+            self.assertEqual(self.store.count("t"), 1)
+            pool.submit(self.store.close).result()
+        with self.assertRaises(ProgramError):
+            self.store.tables()
 
     def test_closed(self):
         self.store.close()
@@ -1539,6 +1547,24 @@ class Memory(unittest.TestCase):
             if is_done is not None:
                 self.assertEqual(self.store.get("t", key) is not None, is_done)
         self.assertGreater(told, 0)
+
+
+class StoresInProcess(InProcess, Stores):
+    """The same calls, in this process."""
+
+
+class PagesInProcess(InProcess, Pages):
+    """The same reads of many rows, in this process."""
+
+
+class RulesInProcess(InProcess, Rules):
+    """The same refusals of NULL, in this process."""
+
+
+class LoadsInProcess(InProcess, Loads):
+    """The same loads, in this process."""
+
+    test_longest_call = None
 
 
 if __name__ == "__main__":

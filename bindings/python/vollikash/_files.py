@@ -3,7 +3,7 @@
 The library is next to this file if it is installed, or where the repository builds it, or where the
 system keeps its libraries. The environment variable VOLLIKASH_LIBRARY names another one. The first
 call loads it. Only a group and a store keep state. Several threads can call at once, but one at a
-time on a group, and on a store only the one that opened it.
+time on a group or a store.
 """
 import ctypes
 import functools

@@ -24,14 +24,13 @@ def _refused(code: int) -> Exception:
 
 
 class Memory:
-    """A store in memory that answers one call after the other, in the thread that opened it.
+    """A store in memory that answers one call after the other.
 
     `lock` is held by who makes calls.
     """
 
     def __init__(self, file: bytes) -> None:
         self.lock = threading.RLock()
-        self._thread = threading.get_ident()
         self._held = Held()
         self._is_free = self._is_open = True
         fault = _Fault()
@@ -49,12 +48,8 @@ class Memory:
         if not self._is_open:
             raise ProgramError("the store is closed")
 
-    def _expect_own(self) -> None:
-        """Raise RuntimeError in another thread than that of the store, and in a handler of a signal
-        that has come within a call.
-        """
-        if threading.get_ident() != self._thread:
-            raise RuntimeError("a store in memory belongs to the thread that has opened it")
+    def _expect_free(self) -> None:
+        """Raise RuntimeError in a handler of a signal that has come within a call."""
         if not self._is_free:
             raise RuntimeError("another call of the store waits for its answer")
 
@@ -64,7 +59,7 @@ class Memory:
         A KeyboardInterrupt is raised after the answer, as `Interrupted`.
         """
         self.expect_open()
-        self._expect_own()
+        self._expect_free()
         answered = ctypes.c_size_t(_NOT_MADE)
         error: Optional[BaseException] = None
         try:
@@ -105,7 +100,7 @@ class Memory:
     def to_bytes(self) -> bytes:
         """Return the bytes of the store's file."""
         self.expect_open()
-        self._expect_own()
+        self._expect_free()
         room = 0
         while True:
             out, written = ctypes.create_string_buffer(room), ctypes.c_size_t()
@@ -125,7 +120,7 @@ class Memory:
     def close(self) -> None:
         """Free the store."""
         if self._is_open:
-            self._expect_own()
+            self._expect_free()
         self.end()
 
     def end(self) -> None:

@@ -677,8 +677,8 @@ def from_bytes(file: Bytes = b"") -> Store:
     """Open the store in the bytes of a database file that has no log, in this process, without a
     program. No bytes make a new store.
 
-    It is in memory, and `Store.to_bytes` returns what it has. It belongs to the thread that opens
-    it: a call from another one raises RuntimeError. A file of another kind raises `StoreError`.
+    It is in memory, and `Store.to_bytes` returns what it has. A file of another kind raises
+    `StoreError`. A call can be of any length, and has no timeout.
     """
     return Store(Memory(as_bytes(file)), "from_bytes")
 

@@ -10,6 +10,14 @@ pub struct Held {
     pub(crate) store: Option<OpenStore>,
 }
 
+/// Is compiled only for what can be sent to another thread.
+fn expect_send<T: Send>() {}
+
+/// Has no effect. It is compiled only since what C keeps can be sent to another thread.
+pub fn send_law() {
+    expect_send::<Held>()
+}
+
 /// A store, and the answer to its last call.
 #[derive(Drop)]
 pub struct OpenStore {
