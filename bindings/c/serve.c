@@ -1,16 +1,16 @@
 /*
-** Serves a store as changeset-calls does, but by the library: it reads the frames of calls on standard input, and writes
-** those of the answers to standard output (docs/CALLS.md).
+** Serves a store as changeset-calls does, but by the library: it reads the frames of calls on standard input, and
+** writes those of the answers to standard output (docs/CALLS.md).
 **
 **     serve STORE        opens the store in a file, or a new one if there is none, and saves it there at the end
 **     serve :memory:     opens a new store, and saves it nowhere
 **
 ** The status is 0 if the input ended after a call and the store was saved.
 **
-** If it is built with REFUSING, and linked so that calls of malloc, calloc, realloc and free come here, each allocation of
-** each call outside a transaction is refused, one at a time, before the call is made. Such a call answers NO_MEMORY, or is
-** refused with 60 or 38; otherwise it ends there. So the answers are those of calls that are made once, if a refused one
-** changes nothing.
+** If it is built with REFUSING, and linked so that calls of malloc, calloc, realloc and free come here, each allocation
+** of each call outside a transaction is refused, one at a time, and the call is made again. A call that memory is
+** refused to answers NO_MEMORY, or is refused with 60 or 38; any other answer counts. So the answers are those of
+** calls that are made once, if a refused one changes nothing.
 */
 #include <stdio.h>
 #include <stdlib.h>
@@ -157,8 +157,9 @@ static void answer(struct vollikash_store *store, struct bytes given)
     require(call(store, given, &answered) == VOLLIKASH_OK, "a call is not answered");
     struct bytes made = make(answered);
     if (answered > 0) {
-        require(vollikash_store_answer(store, made.at, answered - 1, &written) == VOLLIKASH_NO_ROOM && written == answered,
+        require(vollikash_store_answer(store, made.at, answered - 1, &written) == VOLLIKASH_NO_ROOM,
                 "an answer has room where there is none");
+        require(written == answered, "an answer needs another room");
     }
     require(vollikash_store_answer(store, made.at, answered, &written) == VOLLIKASH_OK && written == answered,
             "an answer is not the one that was announced");

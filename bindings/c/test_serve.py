@@ -1,6 +1,6 @@
 #!/usr/bin/env python3
-"""Tests of stores by the library: the calls of vollikash_store_open and the others, on the shared library, and runs of calls by
-`serve.c`, next to the program changeset-calls.
+"""Tests of stores by the library: the calls on them, by the shared library, and runs of calls by `serve.c`, next to the
+program changeset-calls.
 
 usage: bindings/c/test_serve.py, behind `make`; `make check` runs it
 """
@@ -20,8 +20,8 @@ TESTS = HERE.parents[1] / "tests"
 sys.path.insert(0, str(TESTS))
 
 from support.calls import (  # noqa: E402
-    CALLS_PROGRAM, CHANGESET, DONE, FLAG, NUMBER, REFUSED, REPORT, ROW, ROWS, answer, call, columns, count, frame, frames, row,
-    sized, text,
+    CALLS_PROGRAM, CHANGESET, DONE, FLAG, NUMBER, REFUSED, REPORT, ROW, ROWS, answer, call, columns, count, frame, frames,
+    row, sized, text,
 )
 from support.program import PROGRAM  # noqa: E402
 
@@ -32,7 +32,10 @@ OK, DAMAGED_STORE, STORE_FAULT, NO_ROOM, NOT_OPEN, TRANSACTION_OPEN = 0, 37, 38,
 TABLE = text("t")
 DECLARE = call("declare", TABLE, columns(("a", 1), ("b", 0)))
 ALL = call("rows", TABLE, b"\x00", count(100))
-CHANGES = b"T\x02\x01\x00t\x00\x12\x00\x01\0\0\0\0\0\0\0\x09\x03\x01q\x17\x00\x01\0\0\0\0\0\0\0\x01\x03\x01x\x00\x03\x01z"
+CHANGES = (
+    b"T\x02\x01\x00t\x00\x12\x00\x01\0\0\0\0\0\0\0\x09\x03\x01q"
+    b"\x17\x00\x01\0\0\0\0\0\0\0\x01\x03\x01x\x00\x03\x01z"
+)
 
 
 def insert(key, value):
@@ -42,7 +45,8 @@ def insert(key, value):
 # Calls of every kind. The last two refuse.
 SCRIPT = [
     DECLARE, insert(1, "x"), call("open_session"), call("attach", TABLE), insert(2, "y"),
-    call("update", TABLE, row([2]), row([2, "yy"])), call("put", TABLE, row([3, None])), call("delete", TABLE, row([3])),
+    call("update", TABLE, row([2]), row([2, "yy"])), call("put", TABLE, row([3, None])),
+    call("delete", TABLE, row([3])),
     call("apply", sized(CHANGES), b"\x00", b"\x02\x02\x02\x02"), call("changeset"), ALL, call("count", TABLE),
     call("undo"), call("is_empty"), ALL, call("close_session"), call("tables"), call("schema", TABLE),
     call("get", TABLE, row([1])), call("begin"), insert(5, "five"), call("commit"), call("begin"), insert(6, "six"),
@@ -178,7 +182,8 @@ class Stores(unittest.TestCase):
             with contextlib.closing(sqlite3.connect(path)) as base:
                 self.assertEqual(base.execute("PRAGMA integrity_check").fetchone(), ("ok",))
                 self.assertEqual(base.execute("SELECT count(*) FROM rec WHERE tab = 't'").fetchone(), (1,))
-            ran = subprocess.run([PROGRAM, path, "shell"], input=b"SELECT * FROM t;\n", capture_output=True, check=False)
+            line = b"SELECT * FROM t;\n"
+            ran = subprocess.run([PROGRAM, path, "shell"], input=line, capture_output=True, check=False)
             self.assertEqual(ran.stdout, b"1|'x'\n")
         self.assertEqual(self.ask(ALL), (ROWS, [(1, "x"), (2, "y")], False))
 
@@ -285,8 +290,8 @@ class Served(unittest.TestCase):
     def test_calls_from_a_seed(self):
         for serve in (SERVE, SANITIZED):
             ran = subprocess.run(
-                [TESTS / "fuzz-calls", "--seconds", "2", "--seed", "11"], env={**os.environ, "VOLLIKASH_CALLS": str(serve)},
-                capture_output=True, text=True, check=False,
+                [TESTS / "fuzz-calls", "--seconds", "2", "--seed", "11"], capture_output=True, text=True, check=False,
+                env={**os.environ, "VOLLIKASH_CALLS": str(serve)},
             )
             self.assertEqual(ran.returncode, 0, ran.stdout + ran.stderr)
 

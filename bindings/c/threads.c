@@ -1,6 +1,6 @@
 /*
-** Uses stores in several threads at once, one in each, with 2 MiB of stack. It ends with status 0 if each store has what
-** its thread did. It is built with the thread sanitizer.
+** Uses stores in several threads at once, one in each, with 2 MiB of stack. It ends with status 0 if each store has
+** what its thread did. It is built with the thread sanitizer.
 */
 #include <pthread.h>
 #include <stdio.h>

@@ -67,7 +67,7 @@ const REFUSED: u8 = 11;
 /// The code of a refusal by the database.
 const STORE_FAULT: u8 = 38;
 
-/// The code of a refusal for want of memory.
+/// The code of a refusal since memory ran out.
 const NO_MEMORY: u8 = 60;
 
 /// Returns whether an answer says that the database refused or memory ran out, so that the store may be shut.
@@ -132,8 +132,8 @@ impl MemoryHost {
     }
 
     /// Carries out the call that the bytes are, and returns the bytes of its answer, as [`answer_call`] does. A closed
-    /// store is opened first. If that fails, the answer is a refusal with 38 StoreFault or 60 NoMemory, whatever the call
-    /// is, and the store stays closed.
+    /// store is opened first. If that fails, the answer is a refusal with 38 StoreFault or 60 NoMemory, whatever the
+    /// call is, and the store stays closed.
     ///
     /// # Errors
     ///
@@ -156,13 +156,13 @@ impl MemoryHost {
         }
     }
 
-    /// Returns the bytes of a database file that has no log, with the tables of the store. The store keeps its tables and
-    /// its session, and is closed.
+    /// Returns the bytes of a database file that has no log, with the tables of the store. The store keeps its tables
+    /// and its session, and is closed.
     ///
     /// # Errors
     ///
-    /// `TransactionOpen` while a transaction is open. `StoreFault` if the database refuses, also if memory runs out as a
-    /// file grows, and `NoMemory` if memory runs out elsewhere. The store keeps its tables and its session.
+    /// `TransactionOpen` while a transaction is open. `StoreFault` if the database refuses, also if memory runs out as
+    /// a file grows, and `NoMemory` if memory runs out elsewhere. The store keeps its tables and its session.
     pub fn to_bytes(&mut self, alloc: Global) -> Result<Vec<u8>, SaveFault>
         ensures made { (held : State) → Lasts self.old held → IfOk result (λ bytes. HasTables held bytes.items) }
         ensures kept { (held : State) → Lasts self.old held → Lasts self.new held }

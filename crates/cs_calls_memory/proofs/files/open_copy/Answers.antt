@@ -1,4 +1,4 @@
--- `files::open_copy`: the store is the one that the files hold, and is refused for want of memory, or by the database.
+-- `files::open_copy`: the store is the one that the files hold, and is refused since memory ran out, or by the database.
 use Rattle.std.proofs.Common.{inl, inr, refl}
 use Rattle.cs_store_memory.proofs.HonestLemmas.{honest, honest_rest}
 use Rattle.cs_calls_memory.proofs.FilesLemmas.{opened_in}

@@ -1,4 +1,4 @@
--- `files::without_log`: the database file alone has the tables.
+-- `files::without_log`: the database file has the tables.
 use Rattle.cs_calls_memory.proofs.files.without_log.Goals as goal
 
 pub returns-in-Ok-clause-kept : goal.returns-in-Ok-clause-kept

@@ -1,4 +1,4 @@
--- `closed::ClosedStore::save`: the database file alone has the tables.
+-- `closed::ClosedStore::save`: the database file has the tables, without the log.
 use Rattle.std.proofs.Common.{sym, subst, ◌∙◌}
 use Rattle.std.proofs.lemmas.Result.{IfOk-weaker}
 use Rattle.cs_store_memory.specs.Memory.{HasTables}
