@@ -10,7 +10,7 @@ import shutil
 import subprocess
 import tempfile
 import unittest
-from typing import List, Optional, Set
+from typing import List, Optional, Set, Tuple
 
 from support.program import TOP
 
@@ -39,25 +39,36 @@ def files_of_crate() -> Set[str]:
     return {file.as_posix() for file in files if file.parts[0] != "target"} - OF_CARGO
 
 
+def codes_of_stores() -> List[Tuple[str, str]]:
+    """Return the numbers and names of what a store refuses, as docs/CALLS.md has them."""
+    text = (TOP / "docs/CALLS.md").read_text()
+    section = text[text.index("## What is refused"):text.index("## Bytes that are no call")]
+    cells = re.findall(r"^\| (\d[^|]*)\|", section, re.M)
+    return [code for cell in cells for code in re.findall(r"(\d+) ([A-Z]\w+)", cell)]
+
+
 class Header(unittest.TestCase):
-    """The crate has what `vollikash.h` has of files."""
+    """The crate has what `vollikash.h` has, and the errors of calls on stores."""
 
     def setUp(self) -> None:
         self.header = HEADER.read_text()
 
     def test_calls(self) -> None:
         declared = re.findall(r"(?:fn|=) (vollikash_\w+)\(", (CRATE / "src/ffi.rs").read_text())
-        exported = re.findall(r"^(?:int|size_t|void) (vollikash_(?!store_)\w+)\(", self.header, re.M)
+        exported = re.findall(r"^(?:int|size_t|void) (vollikash_\w+)\(", self.header, re.M)
         self.assertEqual(sorted(declared), sorted(exported))
 
     def test_codes(self) -> None:
-        """The errors have the numbers and names of the header, except those that no call of the crate returns."""
+        """The errors have the numbers and names of the header, except those that no call of the crate returns, and
+        those of the calls on stores.
+        """
         codes = re.findall(r'^    (\d+) (\w+) "', (CRATE / "src/error.rs").read_text(), re.M)
-        named = re.findall(r"^    VOLLIKASH_(\w+) = (\d+), +/\*", self.header, re.M)
+        named = re.findall(r"^    VOLLIKASH_(\w+) = (\d+),? +/\*", self.header, re.M)
         titles = [(number, "".join(word.capitalize() for word in name.split("_"))) for name, number in named]
-        others = ("NoRoom", "Done", "Range", "DamagedStore", "StoreFault", "NotOpen", "TransactionOpen")
-        self.assertEqual(codes, [it for it in titles if it[1] not in others])
-        self.assertEqual(len(codes), 20)
+        of_header = [it for it in titles if it[1] not in ("NoRoom", "Done", "Range", "NotOpen")]
+        self.assertEqual(len(of_header), 23)
+        self.assertEqual([it for it in codes if it in of_header], of_header)
+        self.assertEqual(codes, sorted({*of_header, *codes_of_stores()}, key=lambda it: int(it[0])))
 
 
 @unittest.skipUnless(cargo(), "no cargo")
@@ -101,7 +112,7 @@ class Crate(unittest.TestCase):
         """The tests pass, and the programs of the documentation do."""
         printed = self.expect("test", "--offline")
         passed: List[str] = re.findall(r"^test result: ok\. (\d+) passed", printed, re.M)
-        self.assertEqual(len(passed), 5)
+        self.assertEqual(len(passed), 6)
         self.assertGreater(min(map(int, passed)), 0)
 
     @needs_library

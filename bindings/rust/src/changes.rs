@@ -18,7 +18,7 @@ pub enum Operation {
     Delete,
 }
 
-/// A value, which is borrowed from the file. A file with a floating-point value is refused.
+/// A value, which is borrowed: that of a change from its file. Floating-point values are refused.
 #[derive(Clone, Copy, Debug, PartialEq, Eq, Hash)]
 #[non_exhaustive]
 pub enum Value<'a> {

@@ -6,7 +6,7 @@ use crate::ffi;
 
 macro_rules! codes {
     ($($number:literal $name:ident $doc:literal,)*) => {
-        /// The number of an error, as in `vollikash.h`.
+        /// The number of an error, of a file or of a store.
         #[derive(Clone, Copy, Debug, PartialEq, Eq, Hash)]
         #[non_exhaustive]
         #[repr(i32)]
@@ -14,8 +14,17 @@ macro_rules! codes {
             $(#[doc = $doc] $name = $number,)*
         }
 
-        /// Each code.
-        const CODES: &[Code] = &[$(Code::$name,)*];
+        impl Code {
+            /// Each code.
+            const ALL: &'static [Self] = &[$(Self::$name,)*];
+
+            /// Returns the documentation.
+            fn documentation(self) -> &'static str {
+                match self {
+                    $(Self::$name => $doc,)*
+                }
+            }
+        }
     };
 }
 
@@ -38,8 +47,30 @@ codes! {
     16 Unpaired "An update has a field only before or only after.",
     17 NullKey "A key column is NULL.",
     18 DuplicateKey "A key is in a table twice.",
+    30 TableExists "There is a table with this name.",
+    31 NoTable "There is no table with this name.",
+    32 BadSchema "The declaration of a table is not valid.",
+    33 KeyTaken "There is a row with this key.",
+    34 NoRow "There is no row with this key.",
+    35 RowWidth "A row or a key has another number of values than the table has columns for it.",
+    36 NullInKey "A value of a key is NULL.",
+    37 DamagedStore "The file is a database that is no store.",
+    38 StoreFault "The file is no database, or the database refuses.",
+    39 NotNull "A value is NULL in a column that refuses it.",
+    40 Wider "The store's table has more columns than that of the changeset.",
+    41 Abort "An apply had a conflict whose choice is to abort.",
+    42 Misuse "An apply had a conflict that cannot be replaced.",
     43 Schema "A table has other columns or another key than in an earlier file.",
+    50 AlreadyAttached "The session has the table.",
+    51 WrongStore "An attached table is not there as it was attached.",
     60 NoMemory "Memory ran out.",
+    64 NoSession "No session is open.",
+    65 SessionOpen "A session is open.",
+    94 FrameTooLong "A part of a call or of its answer is longer than 2147483647.",
+    95 TransactionOpen "A transaction is open.",
+    96 NoTransaction "No transaction is open.",
+    97 TransactionEnded "An error has ended the transaction.",
+    99 ConflictsDiffer "The store has other conflicts than those that were chosen for.",
 }
 
 impl Code {
@@ -47,6 +78,18 @@ impl Code {
     #[must_use]
     pub fn number(self) -> i32 {
         self as i32
+    }
+
+    /// Returns the code of a number.
+    pub(crate) fn of(number: i32) -> Option<Self> {
+        let mut codes = Self::ALL.iter().copied();
+        codes.find(|code| code.number() == number)
+    }
+
+    /// Returns a sentence for people, without a capital and a full stop.
+    pub(crate) fn sentence(self) -> String {
+        let (first, rest) = self.documentation().split_at(1);
+        format!("{}{}", first.to_lowercase(), rest.trim_end_matches('.'))
     }
 }
 
@@ -72,11 +115,9 @@ impl Error {
     ///
     /// # Panics
     ///
-    /// If the report has a number that the header does not name as an error of the call.
+    /// If the report has a number that is none of an error.
     pub(crate) fn of(fault: ffi::Fault) -> Self {
-        let code = *CODES
-            .iter()
-            .find(|code| code.number() == fault.code)
+        let code = Code::of(fault.code)
             .unwrap_or_else(|| panic!("the library returned the number {}", fault.code));
         let file = usize::try_from(fault.file).expect("the number of a file is not negative");
         let place = fault.place;

@@ -44,6 +44,16 @@ pub(crate) struct Fault {
     pub(crate) place: usize,
 }
 
+impl Fault {
+    /// Returns the report of a call that returns no more than a code.
+    fn of(code: c_int) -> Self {
+        Self {
+            code,
+            ..Self::default()
+        }
+    }
+}
+
 /// Where a change lies in a file: `struct vollikash_change`.
 #[repr(C)]
 #[derive(Clone, Copy, Default)]
@@ -73,6 +83,15 @@ pub(crate) struct Field {
 pub(crate) struct Group {
     at: *mut c_void,
 }
+
+/// A store, or NULL for one that is not open: `struct vollikash_store`.
+#[repr(C)]
+pub(crate) struct Store {
+    at: *mut c_void,
+}
+
+// SAFETY: any thread may use a store if something orders the calls, and whoever moves it does.
+unsafe impl Send for Store {}
 
 extern "C" {
     fn vollikash_version() -> c_int;
@@ -116,6 +135,31 @@ extern "C" {
         fault: *mut Fault,
     ) -> c_int;
     fn vollikash_group_close(group: *mut Group);
+    fn vollikash_store_open(
+        store: *mut Store,
+        file: *const u8,
+        length: usize,
+        fault: *mut Fault,
+    ) -> c_int;
+    fn vollikash_store_call(
+        store: *mut Store,
+        call: *const u8,
+        length: usize,
+        answered: *mut usize,
+    ) -> c_int;
+    fn vollikash_store_answer(
+        store: *mut Store,
+        out: *mut u8,
+        room: usize,
+        written: *mut usize,
+    ) -> c_int;
+    fn vollikash_store_save(
+        store: *mut Store,
+        out: *mut u8,
+        room: usize,
+        written: *mut usize,
+    ) -> c_int;
+    fn vollikash_store_close(store: *mut Store);
 }
 
 /// Returns the version of the library.
@@ -168,6 +212,27 @@ pub(crate) enum Made {
     Refused(Fault),
 }
 
+/// Returns what a call reports that took an empty buffer and its capacity.
+///
+/// # Safety
+///
+/// If the code is OK, the call has put that many bytes into the buffer.
+unsafe fn made(out: &mut Vec<u8>, code: c_int, written: usize, fault: Fault) -> Made {
+    match code {
+        OK => {
+            assert!(
+                written <= out.capacity(),
+                "the library wrote {written} bytes"
+            );
+            // SAFETY: the caller promises that they are there, and there is room for them.
+            unsafe { out.set_len(written) };
+            Made::Done
+        }
+        NO_ROOM => Made::NoRoom(written),
+        _ => Made::Refused(fault),
+    }
+}
+
 /// Declares the calls that make bytes from slices, and makes them safe.
 macro_rules! makes {
     ($($name:ident = $call:ident($($slice:ident: $item:ty),+);)+) => {
@@ -194,16 +259,8 @@ macro_rules! makes {
                 let code = unsafe {
                     $call($($slice.as_ptr(), $slice.len(),)+ at, room, &mut written, &mut fault)
                 };
-                match code {
-                    OK => {
-                        assert!(written <= room, "the library wrote {written} bytes");
-                        // SAFETY: the call has written that many bytes, and there is room for them.
-                        unsafe { out.set_len(written) };
-                        Made::Done
-                    }
-                    NO_ROOM => Made::NoRoom(written),
-                    _ => Made::Refused(fault),
-                }
+                // SAFETY: the call has put that many bytes into the buffer if it returns OK.
+                unsafe { made(out, code, written, fault) }
             }
         )+
     };
@@ -253,16 +310,9 @@ impl Group {
         let (mut written, mut fault) = (0, Fault::default());
         // SAFETY: the group is as a call left it, or NULL. `out` has room for as many bytes as its
         // capacity says. They may be uninitialized.
-        match unsafe { vollikash_group_output(self, at, room, &mut written, &mut fault) } {
-            OK => {
-                assert!(written <= room, "the library wrote {written} bytes");
-                // SAFETY: the call has written that many bytes, and there is room for them.
-                unsafe { out.set_len(written) };
-                Made::Done
-            }
-            NO_ROOM => Made::NoRoom(written),
-            _ => Made::Refused(fault),
-        }
+        let code = unsafe { vollikash_group_output(self, at, room, &mut written, &mut fault) };
+        // SAFETY: the call has put that many bytes into the buffer if it returns OK.
+        unsafe { made(out, code, written, fault) }
     }
 }
 
@@ -270,6 +320,70 @@ impl Drop for Group {
     fn drop(&mut self) {
         // SAFETY: the group is as a call left it, or NULL, and is not used after that.
         unsafe { vollikash_group_close(self) }
+    }
+}
+
+impl Default for Store {
+    fn default() -> Self {
+        Self {
+            at: ptr::null_mut(),
+        }
+    }
+}
+
+impl Store {
+    /// Opens the store in the bytes of a file.
+    pub(crate) fn open(file: &[u8]) -> Result<Self, Fault> {
+        expect_version();
+        let (mut store, mut fault) = (Self::default(), Fault::default());
+        // SAFETY: the store is {0}. `file` has as many bytes as its length says.
+        match unsafe { vollikash_store_open(&mut store, file.as_ptr(), file.len(), &mut fault) } {
+            OK => Ok(store),
+            _ => Err(fault),
+        }
+    }
+
+    /// Carries out a call, and returns the length of its answer.
+    pub(crate) fn call(&mut self, call: &[u8]) -> Result<usize, Fault> {
+        let mut answered = 0;
+        // SAFETY: the store is as a call left it: nothing else changes its private field, and it is
+        // not copied. `call` has as many bytes as its length says.
+        match unsafe { vollikash_store_call(self, call.as_ptr(), call.len(), &mut answered) } {
+            OK => Ok(answered),
+            code => Err(Fault::of(code)),
+        }
+    }
+
+    /// Puts the answer to the last call into an empty buffer, within its capacity.
+    pub(crate) fn answer(&mut self, out: &mut Vec<u8>) -> Made {
+        self.fill(out, vollikash_store_answer)
+    }
+
+    /// Puts the bytes of the store's file into an empty buffer, within its capacity.
+    pub(crate) fn save(&mut self, out: &mut Vec<u8>) -> Made {
+        self.fill(out, vollikash_store_save)
+    }
+
+    fn fill(
+        &mut self,
+        out: &mut Vec<u8>,
+        call: unsafe extern "C" fn(*mut Self, *mut u8, usize, *mut usize) -> c_int,
+    ) -> Made {
+        assert!(out.is_empty(), "the buffer is not empty");
+        let (room, at) = (out.capacity(), out.as_mut_ptr());
+        let mut written = 0;
+        // SAFETY: the call is one of the two above. The store is as a call left it. `out` has room
+        // for as many bytes as its capacity says. They may be uninitialized.
+        let code = unsafe { call(self, at, room, &mut written) };
+        // SAFETY: the call has put that many bytes into the buffer if it returns OK.
+        unsafe { made(out, code, written, Fault::of(code)) }
+    }
+}
+
+impl Drop for Store {
+    fn drop(&mut self) {
+        // SAFETY: the store is as a call left it, or NULL, and is not used after that.
+        unsafe { vollikash_store_close(self) }
     }
 }
 
@@ -410,6 +524,7 @@ mod tests {
         ));
         facts.extend(layout!("vollikash_field", Field: kind, integer, offset, length));
         facts.extend(layout!("vollikash_group", Group: at));
+        facts.extend(layout!("vollikash_store", Store: at));
         facts.push(format!("VOLLIKASH_MESSAGE_ROOM == {MESSAGE_ROOM}"));
         facts.push(format!("VOLLIKASH_VERSION == {VERSION}"));
         facts

@@ -165,7 +165,7 @@ fn with_room<T>(room: usize) -> Result<Vec<T>, Error> {
 }
 
 /// Makes room for this many more items.
-fn reserve<T>(list: &mut Vec<T>, more: usize) -> Result<(), Error> {
+pub(crate) fn reserve<T>(list: &mut Vec<T>, more: usize) -> Result<(), Error> {
     list.try_reserve(more).map_err(|_| Error::no_memory())
 }
 
