@@ -360,7 +360,7 @@ def refused(
     code, given = Code(number), {"table": table, "column": column, "key": key, "detail": detail}
     parts = tuple(name for name, part in given.items() if part is not None)
     if code == Code.NO_MEMORY and not parts:
-        return MemoryError("the program of the store ran out of memory")
+        return MemoryError("memory ran out in the call of a store")
     if Code.TRUNCATED <= code <= Code.DUPLICATE_KEY and parts == ("detail",):
         return ChangesetError(code, 1, detail or 0)
     if code not in _KINDS:

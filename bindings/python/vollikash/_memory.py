@@ -56,7 +56,8 @@ class Memory:
     def ask(self, frame: bytes) -> bytes:
         """Return the answer to a call, both with their frames.
 
-        A KeyboardInterrupt is raised after the answer, as `Interrupted`.
+        An exception of a signal is raised after the answer, and a KeyboardInterrupt as
+        `Interrupted`.
         """
         self.expect_open()
         self._expect_free()
@@ -66,7 +67,7 @@ class Memory:
             self._is_free = False
             try:
                 self._call(frame, answered)
-            except KeyboardInterrupt as caught:
+            except BaseException as caught:
                 error = caught
             while True:
                 try:
@@ -78,6 +79,8 @@ class Memory:
             self._is_free = True
         if error is None:
             return answer
+        if not isinstance(error, KeyboardInterrupt):
+            raise error
         raise Interrupted(answered.value != _NOT_MADE and not is_refused(answer)) from error
 
     def _call(self, frame: bytes, answered: ctypes.c_size_t) -> None:
