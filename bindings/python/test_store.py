@@ -1525,6 +1525,42 @@ class Memory(unittest.TestCase):
         with self.assertWarns(ResourceWarning):
             del store
 
+    def test_interrupted_transactions(self):
+        """Ctrl-C at random moments of a block: it is committed or rolled back, and the store stays."""
+        def interrupt(number, frame):
+            raise KeyboardInterrupt
+
+        before = signal.signal(signal.SIGALRM, interrupt)
+        self.addCleanup(signal.signal, signal.SIGALRM, before)
+        chance = random.Random(3)
+        for key in range(600):
+            try:
+                signal.setitimer(signal.ITIMER_REAL, chance.uniform(1e-6, 3e-4))
+                with self.store.transaction():
+                    self.store.insert("t", 2 * key, "x")
+                    if key % 3 == 0:
+                        self.store.insert_many("t", [(2 * key + 1, "x"), (0, "taken")])
+                    self.store.insert("t", 2 * key + 1, "x")
+                signal.setitimer(signal.ITIMER_REAL, 0)
+            except (KeyboardInterrupt, StoreError):
+                pass
+            signal.setitimer(signal.ITIMER_REAL, 0)
+            found = [self.store.get("t", 2 * key + half) is not None for half in range(2)]
+            self.assertEqual(found[0], found[1])
+        self.store.to_bytes()
+
+    def test_fork(self):
+        """A child has no store, also if another thread was in a call."""
+        child = os.fork()
+        if child == 0:
+            try:
+                self.store.tables()
+            except ProgramError:
+                os._exit(0)
+            os._exit(1)
+        self.assertEqual(os.waitpid(child, 0)[1], 0)
+        self.assertEqual(self.store.tables(), ["t"])
+
     def test_interrupts(self):
         """Ctrl-C at random moments: the error says whether the row is there."""
         def interrupt(number, frame):

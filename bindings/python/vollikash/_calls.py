@@ -75,6 +75,12 @@ def _framed(*parts: bytes) -> bytes:
 DONE = _framed(bytes([_IS_DONE]))
 _IS_THERE = bytes([_IS_ROW]) + _SOME
 
+# What answers have if a disk is full.
+_FULL = b"".join((
+    bytes([_IS_REFUSED]), Code.STORE_FAULT.to_bytes(8, "big"), 3 * _NONE, _SOME,
+    (13).to_bytes(8, "big"),
+))
+
 # The answer that memory ran out.
 MEMORY_REFUSED = _framed(bytes([_IS_REFUSED]), Code.NO_MEMORY.to_bytes(8, "big"), 4 * _NONE)
 
@@ -396,6 +402,11 @@ def inserted_row(frame: bytes) -> Row:
 def is_refused(data: bytes) -> bool:
     """Return whether an answer is that a call is refused."""
     return data[HEADER:_PARTS] in (bytes([_IS_REFUSED]), bytes([_IS_UNREAD]))
+
+
+def is_full(data: bytes) -> bool:
+    """Return whether an answer is that a call is refused since a disk is full."""
+    return data[HEADER:] == _FULL
 
 
 def _whole(data: bytes, read: Callable[[_Answer], _T]) -> _T:

@@ -1,11 +1,13 @@
 """A store in memory that answers calls, by libvollikash.so, in this process."""
 import ctypes
+import os
 import struct
 import threading
+import weakref
 from types import TracebackType
 from typing import Iterable, List, Optional, Tuple, Type
 
-from ._calls import DONE, HEADER, MEMORY_REFUSED, is_refused
+from ._calls import DONE, HEADER, MEMORY_REFUSED, ROLL_BACK, is_full, is_refused
 from ._errors import Code, Interrupted, ProgramError, refused
 from ._files import Held, _Fault, _library
 
@@ -14,6 +16,12 @@ _NOT_MADE = (1 << 64) - 1
 
 # The detail of StoreFault for a cause that the library does not tell.
 _OTHER = 1
+
+# How often a roll back is tried if memory runs out.
+_TRIES = 100
+
+# The stores that are open. A forked child has copies of them, which may be in the middle of a call.
+_OPEN: "weakref.WeakSet[Memory]" = weakref.WeakSet()
 
 _size = struct.Struct(">I").pack
 
@@ -33,6 +41,8 @@ class Memory:
         self.lock = threading.RLock()
         self._held = Held()
         self._is_free = self._is_open = True
+        self._closed = "the store is closed"
+        _OPEN.add(self)
         fault = _Fault()
         given = ctypes.byref(self._held)
         if _library().vollikash_store_open(given, file, len(file), ctypes.byref(fault)) != Code.OK:
@@ -46,7 +56,7 @@ class Memory:
     def expect_open(self) -> None:
         """Raise `ProgramError` if the store was closed."""
         if not self._is_open:
-            raise ProgramError("the store is closed")
+            raise ProgramError(self._closed)
 
     def _expect_free(self) -> None:
         """Raise RuntimeError in a handler of a signal that has come within a call."""
@@ -98,7 +108,9 @@ class Memory:
         _library().vollikash_store_answer(
             ctypes.byref(self._held), out, size, ctypes.byref(written)
         )
-        return _size(size) + out.raw
+        answer = _size(size) + out.raw
+        # A file in memory is full if memory runs out.
+        return MEMORY_REFUSED if is_full(answer) else answer
 
     def to_bytes(self) -> bytes:
         """Return the bytes of the store's file."""
@@ -119,6 +131,22 @@ class Memory:
     def ahead(self, keeps: bool = False) -> "Direct":
         """Return what makes many calls."""
         return Direct(self, keeps)
+
+    def abandon(self) -> None:
+        """Roll back the transaction, if one is open."""
+        for _ in range(_TRIES):
+            try:
+                if self.ask(ROLL_BACK) != MEMORY_REFUSED:
+                    return
+            except KeyboardInterrupt:
+                pass
+        self.end()
+
+    def leave(self) -> None:
+        """Leave the store to the process that has forked this one. Its memory is not freed."""
+        self.lock = threading.RLock()
+        self._is_open, self._held.at = False, None
+        self._closed = "the store belongs to the process that has forked this one"
 
     def close(self) -> None:
         """Free the store."""
@@ -173,3 +201,12 @@ class Direct:
     def done(self) -> List[bytes]:
         """Return the calls that are answered DONE, if they are kept."""
         return self._done
+
+
+def _leave_all() -> None:
+    """Leave the stores that are open to the process that has forked this one."""
+    for memory in list(_OPEN):
+        memory.leave()
+
+
+os.register_at_fork(after_in_child=_leave_all)

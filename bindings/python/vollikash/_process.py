@@ -373,6 +373,10 @@ class Process:
             self._process.kill()
         self._ends()
 
+    def abandon(self) -> None:
+        """End the program, and with it the transaction."""
+        self.end()
+
     def close(self) -> None:
         """End the program, and wait for that. If a call waits for its answer, end it at once."""
         if not self._is_free:

@@ -185,9 +185,9 @@ class Store:
 
     def __init__(self, server: Union[Process, Memory], path: str) -> None:
         self._server, self._path = server, path
-        # Whether a transaction is open, or known to be over, its block, its task, and what it has
-        # read of tables.
-        self._is_begun = self._is_over = False
+        # Whether a transaction is open, known to be over, or rolled back before the end of its
+        # block, that block, its task, and what it has read of tables.
+        self._is_begun = self._is_over = self._is_lost = False
         self._block: Callable[[], Optional[_Block]] = lambda: None
         self._owner: Optional[object] = None
         self._tables: Dict[str, _Table] = {}
@@ -234,13 +234,17 @@ class Store:
     def _expect_allowed(self, is_read: bool) -> None:
         """Raise RuntimeError for a call that is not allowed at this time.
 
-        If the exception of a signal has left the block of a transaction before its end, end the
-        program, and with it the transaction.
+        If the exception of a signal has left the block of a transaction before its end, roll it
+        back. A program is ended for that.
         """
         if self._is_begun and self._block() is None:
-            self._server.end()
+            self._server.abandon()
             self._forget()
-            raise ProgramError("a signal has left the block of a transaction: the store is closed")
+            if not self._server.is_open:
+                why = "a signal has left the block of a transaction: the store is closed"
+                raise ProgramError(why)
+        if self._is_lost:
+            raise TransactionEnded(Code.TRANSACTION_ENDED)
         if self._owner is not None and self._owner is not _task():
             raise RuntimeError("another task has a transaction open")
         if self._is_reading and not is_read:
@@ -436,7 +440,8 @@ class Store:
         except TransactionEnded:
             pass
         except BaseException:
-            self._server.end()
+            self._server.abandon()
+            self._is_lost = True
             raise
 
     def update(self, table: str, values: Mapping[str, Value], where: Mapping[str, Value]) -> None:
@@ -513,12 +518,13 @@ class Store:
                     self._roll_back()
             finally:
                 if not self._is_over:
-                    self._server.end()
+                    self._server.abandon()
                 self._forget()
 
     def _forget(self) -> None:
         """Forget the transaction, which has ended."""
         self._is_begun, self._owner, self._is_watched = False, None, False
+        self._is_lost = False
         self._tables.clear()
         self._server.lock.release()
 
