@@ -49,7 +49,7 @@ INSTALLED = {
 # What has the same name in the archive as in the repository, tests in Python aside.
 DOCUMENTS = (
     "CHANGELOG.md", "CONTRIBUTING.md", "README.md", "docs/*.md", "docs/*.png", "examples/**/*.*", "bindings/rust/*.*",
-    "bindings/rust/examples/*.rs", "bindings/rust/src/*.rs", "bindings/rust/tests/**/*.rs",
+    "bindings/rust/examples/*.rs", "bindings/rust/src/**/*.rs", "bindings/rust/tests/**/*.rs",
 )
 KINDS = {".md", ".py", ".c", ".cs", ".png", ".rs", ".toml"}
 

@@ -34,8 +34,9 @@
 ** times the bytes of its files and three kilobytes. vollikash_concat_many and a group
 ** allocate at most some hundred times the bytes of all files and four kilobytes, and so
 ** much only for tables of one change. bindings/c/memory.c measures both. A call frees all
-** of it before it returns, but a group keeps what it has until vollikash_group_close, and
-** a store until vollikash_store_close: its files and up to 8 MB of their pages.
+** of it before it returns, but a group keeps what it has until vollikash_group_close. A
+** store keeps until vollikash_store_close: eight megabytes for pages, from the first call
+** on, its file and the log, the last answer, and the rows that a session has noted.
 ** vollikash_next, vollikash_value, vollikash_values and vollikash_message allocate
 ** nothing. A text is made in memory first, and grows with the length of a table's name
 ** times the number of its changes. No call keeps other state, so several threads can call
@@ -407,12 +408,13 @@ struct vollikash_store {
 
 /*
 ** Opens the store in the bytes of a database file, as vollikash_store_save makes it, and
-** as `changeset` and sqlite3 leave it without a log; "" with length 0 makes a new one. What
-** a log next to the file has is not in it. The file is copied. If a store was open, it is
-** freed. Returns OK; DAMAGED_STORE if the file is a database that is no store; STORE_FAULT
-** if it is no database or the database refuses; or NO_MEMORY. After an error what was open
-** stays as it was. `fault` has the code, and no file and place. It takes time in
-** proportion to the file.
+** as `changeset` and sqlite3 leave it once it is closed; "" with length 0 makes a new one.
+** What a -wal or a -journal next to the file has is not in it. The file is copied. If a
+** store was open, it is freed. Returns OK; DAMAGED_STORE if the database has a `rec` that
+** is not the table of records, or has records that are invalid; STORE_FAULT if the file is
+** no database, or the database refuses; or NO_MEMORY. Another database becomes a store next
+** to its tables. After an error what was open stays as it was. `fault` has the code, and
+** no file and place. It takes time in proportion to the file.
 */
 int vollikash_store_open(struct vollikash_store *store, const uint8_t *file, size_t length,
                          struct vollikash_fault *fault) VOLLIKASH_NONNULL;
@@ -442,7 +444,8 @@ int vollikash_store_answer(struct vollikash_store *store, uint8_t *out, size_t r
 ** answer. Returns OK; NO_ROOM, with the length that is needed; NOT_OPEN; TRANSACTION_OPEN;
 ** STORE_FAULT; or NO_MEMORY. Unless it returns OK, `out` is unchanged. It takes time in
 ** proportion to the store, and so does the next call. Saved again without a call between,
-** the bytes are the same, and are only copied.
+** the bytes are the same, and are only copied. docs/C.md, "Saved files", says how to put
+** them into a file.
 */
 int vollikash_store_save(struct vollikash_store *store, uint8_t *out, size_t room,
                          size_t *written) VOLLIKASH_NONNULL;

@@ -501,12 +501,17 @@ class Numbers(unittest.TestCase):
         """The numbers of the header's calls."""
         return self.numbers(re.search(r"enum vollikash_code \{(.*?)\};", HEADER.read_text(), re.S)[1])
 
+    def returned(self):
+        """The numbers, names and classes of what the header's calls return: of files, memory, arguments and stores."""
+        of_documents = [it for it in self.documented() if it[0] <= 18 or it[0] in (37, 38, 43, 60, 80, 81, 82, 83)]
+        return [(0, "Ok", 0), *of_documents, (95, "TransactionOpen", 1)]
+
     def test_documents(self):
-        """The header has only numbers that its calls return: of files, of memory and of arguments."""
+        """The header has only numbers that its calls return."""
         errors = self.documented()
         numbers = {name: number for number, name, _ in errors}
-        returned = {name: number for number, name, _ in errors if number <= 18 or number in (43, 60, 80, 81, 82)}
-        self.assertEqual({"Ok": 0, **returned}, {name: number for name, (number, _) in self.header().items()})
+        self.assertEqual({name: number for number, name, _ in self.returned()},
+                         {name: number for name, (number, _) in self.header().items()})
         self.assertEqual([number for number, *_ in errors], sorted({number for number, *_ in errors}))
         for document in ("FORMAT.md", "STORE.md"):
             rows = re.findall(r"^\| (\d+) \| (\w+) \|", (TOP / "docs" / document).read_text(), re.M)
@@ -553,7 +558,7 @@ class Numbers(unittest.TestCase):
         source = ["#include <stdio.h>", '#include "vollikash.h"', "int main(void)", "{", *prints, "}", ""]
         printed_classes = compiled("\n".join(source)).split()
         self.assertEqual({title: int(line) for title, line in zip(numbers, printed_classes)},
-                         {"Ok": 0, **{name: code for _, name, code in self.documented() if name in numbers}})
+                         {name: code for _, name, code in self.returned()})
 
 
 class Linked(unittest.TestCase):
