@@ -1536,15 +1536,14 @@ class Memory(unittest.TestCase):
         for key in range(600):
             try:
                 signal.setitimer(signal.ITIMER_REAL, chance.uniform(1e-6, 3e-4))
-                with self.store.transaction():
+                with contextlib.suppress(StoreError), self.store.transaction():
                     self.store.insert("t", 2 * key, "x")
                     if key % 3 == 0:
                         self.store.insert_many("t", [(2 * key + 1, "x"), (0, "taken")])
                     self.store.insert("t", 2 * key + 1, "x")
                 signal.setitimer(signal.ITIMER_REAL, 0)
-            except (KeyboardInterrupt, StoreError):
+            except KeyboardInterrupt:
                 pass
-            signal.setitimer(signal.ITIMER_REAL, 0)
             found = [self.store.get("t", 2 * key + half) is not None for half in range(2)]
             self.assertEqual(found[0], found[1])
         self.store.to_bytes()
