@@ -113,8 +113,9 @@ impl Store {
     ///
     /// # Errors
     ///
-    /// [`Code::DamagedStore`] if the file is a database that is no store. [`Code::StoreFault`] if
-    /// it is no database, or the database refuses it.
+    /// [`Code::DamagedStore`] if the database has a `rec` that is not the table of records, or
+    /// records that are invalid. [`Code::StoreFault`] if the file is no database, or the database
+    /// refuses it.
     pub fn open(file: &[u8]) -> Result<Self, StoreError> {
         let held = ffi::Store::open(file).map_err(Error::of)?;
         Ok(Self {
