@@ -20,8 +20,8 @@ TESTS = HERE.parents[1] / "tests"
 sys.path.insert(0, str(TESTS))
 
 from support.calls import (  # noqa: E402
-    CALLS_PROGRAM, CHANGESET, DONE, FLAG, NUMBER, REFUSED, REPORT, ROW, ROWS, answer, call, columns, count, frame, frames,
-    row, sized, text,
+    CALLS_PROGRAM, CHANGESET, DONE, FLAG, NUMBER, REFUSED, REPORT, ROW, ROWS, answer, call, columns,
+    count, frame, frames, row, sized, text,
 )
 from support.program import PROGRAM  # noqa: E402
 
