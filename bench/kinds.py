@@ -106,6 +106,12 @@ def store(
     return Kind(f"`Store.{name}", ours, theirs, (INSERTS,), why, why_memory, MANY, state)
 
 
+def recorded(name: str, operation: str) -> Kind:
+    """Return the kind of inserts in C in a store in memory, which a session records."""
+    made = call(operation, "file", (INSERTS,), IN_FILES, IN_FILES)
+    return made._replace(name=f"`vollikash_insert` in a session{name}", most=MANY)
+
+
 def look(name: str, file: str = "file", theirs: str = "") -> Kind:
     """Return the kind of a call on changes from Python."""
     ours = f"./package ours {name} {file}"
@@ -157,6 +163,8 @@ KINDS = (
     store("rows_in_process", "rows` in process", "rows", OPENS, LISTS, "full"),
     store("get_in_process", "get` in process", "get", OPENS, LISTS, "full"),
     store("edit_in_process", "update` and undo in process", "", UNKNOWN),
+    recorded("", "record"),
+    recorded(", all one transaction", "record_as_one"),
     look("changes", theirs="./package sqlite changes file"),
     look("Builder"),
     look("write_json"),

@@ -1,7 +1,8 @@
 /*
 ** The calls of SQLite's library that `calls.c` makes: its iterator without values (check), with
 ** values (next), and with values that are printed (dump); invert, concat, its changegroup
-** (concat_many), apply; and its check of a database (integrity).
+** (concat_many), apply; its check of a database (integrity); and inserts that a session records in
+** a database in memory (record, record_as_one).
 */
 #define SQLITE_ENABLE_SESSION 1
 #define SQLITE_ENABLE_PREUPDATE_HOOK 1
@@ -119,6 +120,54 @@ static int group(const struct bytes *files, const struct bytes *lengths, int *ma
     return code;
 }
 
+/* Creates the table t with so many columns, the first one its key, and prepares its INSERT. */
+static int create(sqlite3 *base, int columns, sqlite3_stmt **insert)
+{
+    char table[20000] = "CREATE TABLE t(c0 PRIMARY KEY", values[5000] = "INSERT INTO t VALUES(?";
+    for (int column = 1; column < columns; column++) {
+        sprintf(table + strlen(table), ", c%d", column);
+        strcat(values, ", ?");
+    }
+    int code = sqlite3_exec(base, strcat(table, ")"), NULL, NULL, NULL);
+    return code ? code : sqlite3_prepare_v2(base, strcat(values, ")"), -1, insert, NULL);
+}
+
+/* Inserts the rows of a file of INSERTs by a statement. */
+static int insert_all(sqlite3_stmt *insert, int columns, const struct bytes *file)
+{
+    sqlite3_changeset_iter *changes;
+    sqlite3_value *value;
+    int code = sqlite3changeset_start(&changes, (int)file->count, file->at);
+    while (code == SQLITE_OK && sqlite3changeset_next(changes) == SQLITE_ROW) {
+        for (int column = 0; column < columns; column++) {
+            sqlite3changeset_new(changes, column, &value);
+            sqlite3_bind_value(insert, column + 1, value);
+        }
+        code = sqlite3_step(insert) == SQLITE_DONE ? sqlite3_reset(insert) : SQLITE_ERROR;
+    }
+    return code != SQLITE_OK ? code : sqlite3changeset_finalize(changes);
+}
+
+/* Records these inserts, each a transaction of its own or all one, and makes their changeset. */
+static int record(const struct bytes *file, int is_one, int *made, void **bytes)
+{
+    sqlite3 *base;
+    sqlite3_session *session = NULL;
+    sqlite3_stmt *insert = NULL;
+    int columns = file->at[1], code = sqlite3_open(":memory:", &base);
+    code = code ? code : create(base, columns, &insert);
+    code = code ? code : sqlite3session_create(base, "main", &session);
+    code = code ? code : sqlite3session_attach(session, "t");
+    code = code || !is_one ? code : sqlite3_exec(base, "BEGIN", NULL, NULL, NULL);
+    code = code ? code : insert_all(insert, columns, file);
+    code = code || !is_one ? code : sqlite3_exec(base, "COMMIT", NULL, NULL, NULL);
+    code = code ? code : sqlite3session_changeset(session, made, bytes);
+    sqlite3_finalize(insert);
+    sqlite3session_delete(session);
+    sqlite3_close(base);
+    return code;
+}
+
 int call(const char *operation, const char *name, const struct bytes *files, struct bytes *out)
 {
     int made = 0, code, first = (int)files[0].count, second = (int)files[1].count;
@@ -132,6 +181,8 @@ int call(const char *operation, const char *name, const struct bytes *files, str
         code = sqlite3changeset_concat(first, files[0].at, second, files[1].at, &made, &bytes);
     } else if (strcmp(operation, "concat_many") == 0) {
         code = group(&files[0], &files[1], &made, &bytes);
+    } else if (strncmp(operation, "record", 6) == 0) {
+        code = record(files, operation[6] != '\0', &made, &bytes);
     } else {
         return pass(files, operation);
     }

@@ -40,7 +40,7 @@ BUILDERS = {
 
 # What else is installed: the files that fit a pattern, by their folder in the archive.
 INSTALLED = {
-    "include": "bindings/c/vollikash.h",
+    "include": "bindings/c/vollikash*.h",
     "share/bash-completion/completions": "bindings/python/completions/*.bash",
     "share/man/man1": "man/*.1",
     "share/zsh/site-functions": "bindings/python/completions/_*",

@@ -44,14 +44,14 @@ needs_release = unittest.skipUnless(IS_BUILT and PYTHON, "the program, the libra
 
 # What the archive has, documents aside.
 INSTALLED = {
-    "SHA256SUMS", "bin/changeset", "bin/changeset-calls", "include/vollikash.h", "lib/libvollikash.a", "lib/libvollikash.so",
+    "SHA256SUMS", "bin/changeset", "bin/changeset-calls", "include/vollikash.h", "include/vollikash_store.h", "lib/libvollikash.a", "lib/libvollikash.so",
     "lib/libvollikash.so.1", f"lib/libvollikash.so.{dist.VERSION}", "lib/pkgconfig/vollikash.pc",
     "share/man/man1/changeset.1", "share/man/man1/changeset-calls.1",
 }
 # Documents of the archive, among others.
 DOCUMENTS = {
     "CHANGELOG.md", "CONTRIBUTING.md", "README.md", "docs/C.md", "docs/PYTHON.md", "examples/key-change.cs",
-    "examples/inspect/main.c", "examples/notes/notes.py", "examples/notes/terminal.py", "examples/sync/sync.py",
+    "examples/editor/editor.c", "examples/inspect/main.c", "examples/notes/notes.py", "examples/notes/terminal.py", "examples/sync/sync.py",
     *(str(path.relative_to(TOP)) for path in CRATE.glob("**/*.rs") if "target" not in path.parts),
     "bindings/rust/Cargo.toml", "bindings/rust/README.md",
 }

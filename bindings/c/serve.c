@@ -73,38 +73,7 @@ static struct bytes contents_of(const char *path)
 
 #ifdef REFUSING
 
-void *__real_malloc(size_t size);
-void *__real_calloc(size_t count, size_t size);
-void *__real_realloc(void *memory, size_t size);
-void __real_free(void *memory);
-void *__wrap_malloc(size_t size);
-void *__wrap_calloc(size_t count, size_t size);
-void *__wrap_realloc(void *memory, size_t size);
-void __wrap_free(void *memory);
-
-/* Which allocation is refused, counted from here on, or none for 0, and how many were asked for. */
-static long refused = 0;
-static long allocations = 0;
-
-void *__wrap_malloc(size_t size)
-{
-    return ++allocations == refused ? NULL : __real_malloc(size);
-}
-
-void *__wrap_calloc(size_t count, size_t size)
-{
-    return ++allocations == refused ? NULL : __real_calloc(count, size);
-}
-
-void *__wrap_realloc(void *memory, size_t size)
-{
-    return ++allocations == refused ? NULL : __real_realloc(memory, size);
-}
-
-void __wrap_free(void *memory)
-{
-    __real_free(memory);
-}
+#include "refusing.h"
 
 /* Whether the answer to a call says that memory ran out, or that the database refuses. */
 static int ran_out(struct vollikash_store *store, int code, size_t answered)
@@ -116,10 +85,10 @@ static int ran_out(struct vollikash_store *store, int code, size_t answered)
     } else {
         require(vollikash_store_answer(store, answer.at, answered, &written) == VOLLIKASH_OK, "there is no answer");
     }
-    int is_refused = written > CODE && answer.at[0] == REFUSED && (answer.at[CODE] == VOLLIKASH_NO_MEMORY ||
-                                                                   answer.at[CODE] == VOLLIKASH_STORE_FAULT);
+    int says_so = written > CODE && answer.at[0] == REFUSED && (answer.at[CODE] == VOLLIKASH_NO_MEMORY ||
+                                                                answer.at[CODE] == VOLLIKASH_STORE_FAULT);
     free(answer.at);
-    return code == VOLLIKASH_NO_MEMORY || is_refused;
+    return code == VOLLIKASH_NO_MEMORY || says_so;
 }
 
 /* Makes a call again and again, with each of its allocations refused in turn, until none is. */

@@ -23,8 +23,8 @@ CALLS = HERE.parents[1] / "crates/changeset_calls/out/changeset_calls"
 
 # What is installed below the prefix, and what else where a program is built.
 LIBRARY = {
-    "include/vollikash.h", "lib/libvollikash.a", "lib/libvollikash.so", "lib/libvollikash.so.1", "lib/libvollikash.so.1.0.0",
-    "lib/pkgconfig/vollikash.pc",
+    "include/vollikash.h", "include/vollikash_store.h", "lib/libvollikash.a", "lib/libvollikash.so", "lib/libvollikash.so.1",
+    "lib/libvollikash.so.1.0.0", "lib/pkgconfig/vollikash.pc",
 }
 COMMANDS = {
     PROGRAM: {"bin/changeset", "share/man/man1/changeset.1"},

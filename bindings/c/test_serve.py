@@ -1,6 +1,6 @@
 #!/usr/bin/env python3
-"""Tests of stores by the library: the calls on them, by the shared library, and runs of calls by `serve.c`, next to the
-program changeset-calls.
+"""Tests of stores by the library: the calls on them, by the shared library; runs of calls by `serve.c`, next to the
+program changeset-calls; and typed calls, by `typed.c`.
 
 usage: bindings/c/test_serve.py, behind `make`; `make check` runs it
 """
@@ -8,6 +8,7 @@ import contextlib
 import ctypes
 import os
 import pathlib
+import re
 import resource
 import sqlite3
 import subprocess
@@ -294,6 +295,40 @@ class Served(unittest.TestCase):
                 env={**os.environ, "VOLLIKASH_CALLS": str(serve)},
             )
             self.assertEqual(ran.returncode, 0, ran.stdout + ran.stderr)
+
+
+class Typed(unittest.TestCase):
+    """The typed calls of vollikash_store.h."""
+
+    def test_calls(self):
+        """Next to what they answer, sanitizers look for undefined behaviour, and each allocation is refused in turn."""
+        for program in ("typed", "typed-sanitized", "typed-refusing"):
+            with self.subTest(program):
+                ran = subprocess.run([HERE / "out" / program], capture_output=True, text=True, check=False)
+                self.assertEqual((ran.returncode, ran.stderr), (0, ""))
+
+    def test_header_alone(self):
+        """The header is C99 and C++11, without a warning."""
+        for compiler, standard, suffix in (("cc", "c99", "c"), ("c++", "c++11", "cc")):
+            source = f'#include "{HERE / "vollikash_store.h"}"\nint main(void) {{ return VOLLIKASH_INT(0).length != 0; }}\n'
+            with self.subTest(standard), tempfile.TemporaryDirectory() as folder:
+                path = pathlib.Path(folder) / f"main.{suffix}"
+                path.write_text(source)
+                flags = ["-Wall", "-Wextra", "-Werror", "-pedantic", f"-std={standard}"]
+                subprocess.run([compiler, *flags, path, "-o", f"{folder}/main"], check=True)
+                subprocess.run([f"{folder}/main"], check=True)
+
+    def test_numbers(self):
+        """Each error has its name and number in the documents, and its sentence."""
+        header, source = (HERE / "vollikash_store.h").read_text(), (HERE / "vollikash_store.c").read_text()
+        documents = "".join((HERE.parents[1] / "docs" / name).read_text() for name in ("ERRORS.md", "CALLS.md"))
+        numbers = re.findall(r"^    VOLLIKASH_([A-Z_]+) = (\d+),? +/\*", header, re.M)
+        self.assertGreater(len(numbers), 18)
+        for name, number in numbers:
+            title = "".join(word.capitalize() for word in name.split("_"))
+            self.assertRegex(documents, rf"\b{number} (\| )?{title}\b")
+            said = re.search(rf'{{VOLLIKASH_{name}, "(.*)"}}', source)
+            self.assertLess(len(said[1]), 80)
 
 
 if __name__ == "__main__":

@@ -1,0 +1,60 @@
+/* An allocator for test programs that are linked so that calls of malloc, calloc, realloc and free come here. */
+#ifndef REFUSING_H
+#define REFUSING_H
+
+#include <stddef.h>
+
+void *__real_malloc(size_t size);
+void *__real_calloc(size_t count, size_t size);
+void *__real_realloc(void *memory, size_t size);
+void __real_free(void *memory);
+void *__wrap_malloc(size_t size);
+void *__wrap_calloc(size_t count, size_t size);
+void *__wrap_realloc(void *memory, size_t size);
+void __wrap_free(void *memory);
+
+/* Which allocation is refused, counted from here on, or none for 0, how many were asked for, and how many blocks are not
+** yet freed. */
+static long refused = 0;
+static long allocations = 0;
+static long blocks = 0;
+
+/* Counts an allocation, and returns whether it is the one that is refused. */
+static int is_refused(void)
+{
+    return ++allocations == refused;
+}
+
+/* Counts a block. */
+static void *counted(void *memory)
+{
+    blocks += memory != NULL;
+    return memory;
+}
+
+void *__wrap_malloc(size_t size)
+{
+    return is_refused() ? NULL : counted(__real_malloc(size));
+}
+
+void *__wrap_calloc(size_t count, size_t size)
+{
+    return is_refused() ? NULL : counted(__real_calloc(count, size));
+}
+
+void *__wrap_realloc(void *memory, size_t size)
+{
+    if (is_refused()) {
+        return NULL;
+    }
+    void *moved = __real_realloc(memory, size);
+    return memory == NULL ? counted(moved) : moved;
+}
+
+void __wrap_free(void *memory)
+{
+    blocks -= memory != NULL;
+    __real_free(memory);
+}
+
+#endif
