@@ -390,7 +390,8 @@ int vollikash_sql(const uint8_t *file, size_t length, uint8_t *out, size_t room,
 
 /*
 ** A store in memory: its tables are read and changed by the calls of docs/CALLS.md, each
-** without its frame. {0} is one that is not open. Without the tests of what is returned:
+** without its frame. vollikash_store.h makes them of values of C. {0} is one that is not
+** open. Without the tests of what is returned:
 **
 **     struct vollikash_store store = {0};
 **     vollikash_store_open(&store, file, length, &fault);

@@ -198,11 +198,8 @@ class Editor(unittest.TestCase):
             for answer in (-1, errno.EIO, errno.ENOSPC):
                 for at in range(1, 100):
                     self.path.write_bytes(old)
-                    mark, marked = os.pipe()
                     refused = {"REFUSE_CALL": call, "REFUSE_AT": at, "REFUSE_WITH": answer, "LD_PRELOAD": REFUSE}
                     run(self.path, "a new", "w", **{name: str(it) for name, it in refused.items()})
-                    os.close(mark)
-                    os.close(marked)
                     left = lines_of(self.path)
                     with self.subTest(call=call, answer=answer, at=at):
                         self.assertIn(left, ("1|'old'\n", written))
