@@ -1,13 +1,24 @@
-/* An allocator for test programs that are linked so that calls of malloc, calloc, realloc and free come here. */
+/*
+** An allocator for test programs that are linked so that calls of malloc, calloc, realloc and free come here; or those
+** of one file, which is compiled so, if this is compiled with OF_ONE_FILE.
+*/
 #ifndef REFUSING_H
 #define REFUSING_H
 
 #include <stddef.h>
+#include <stdlib.h>
 
+#ifdef OF_ONE_FILE
+#define __real_malloc malloc
+#define __real_calloc calloc
+#define __real_realloc realloc
+#define __real_free free
+#else
 void *__real_malloc(size_t size);
 void *__real_calloc(size_t count, size_t size);
 void *__real_realloc(void *memory, size_t size);
 void __real_free(void *memory);
+#endif
 void *__wrap_malloc(size_t size);
 void *__wrap_calloc(size_t count, size_t size);
 void *__wrap_realloc(void *memory, size_t size);

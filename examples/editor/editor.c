@@ -28,7 +28,6 @@ struct change { /* the changeset of a command */
     uint8_t *file;
     size_t length;
 };
-
 struct editor {
     struct vollikash_db db;
     const char *path;
@@ -54,7 +53,6 @@ struct edit {
     int64_t number;
     const char *text;
 };
-
 /* Moves the lines from one to another, that one last, by 1 or by -1. */
 static int move_lines(struct vollikash_db *db, int64_t from, int64_t to, int by)
 {
@@ -207,11 +205,13 @@ static void save(struct editor *editor)
     free(path);
 }
 
-/* Whether a program has left its log next to the file: what it has written last is not in the file's bytes. */
+/* Whether a log with pages is next to the file: what a program has written last is not in the file's bytes. */
 static int has_log(const char *path)
 {
     char log[4096];
-    return snprintf(log, sizeof log, "%s-wal", path) >= (int)sizeof log || access(log, F_OK) == 0;
+    struct stat status;
+    int length = snprintf(log, sizeof log, "%s-wal", path);
+    return length >= (int)sizeof log || (stat(log, &status) == 0 && status.st_size > 100);
 }
 
 /* Opens the store in the file, or a new one if there is none. Returns whether it is open. */
