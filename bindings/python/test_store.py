@@ -41,6 +41,10 @@ FILE = bytes.fromhex("5402010074001200010000000000000001030178")
 NULL_INSERT = bytes.fromhex("540201006e00" "1200" "010000000000000001" "05")
 NULL_UPDATE = bytes.fromhex("540201006e00" "1700" "010000000000000001" "030178" "00" "05")
 
+# The answer that a disk is full, and how many of its bytes are before the detail.
+FULL = b"\x0b" + (38).to_bytes(8, "big") + b"\0\0\0\1" + (13).to_bytes(8, "big")
+BEFORE_DETAIL = len(FULL) - 8
+
 # What no row holds.
 UNFIT = (1.5, math.nan, "\ud800", 1 << 63, -(1 << 63) - 1, True, [1], object(), UNDEFINED)
 
@@ -1424,6 +1428,46 @@ class Memory(unittest.TestCase):
         self.store = vollikash.from_bytes()
         self.addCleanup(self.store.close)
         self.store.create("t", ["a", "b"], key=["a"])
+
+    def test_memory_that_runs_out(self):
+        """A file in memory is full if memory runs out."""
+        content = bytearray(FULL)
+
+        def make(held, call, length, answered):
+            answered._obj.value = len(content)
+
+        def answer(held, out, size, written):
+            out.raw = bytes(content)
+
+        library = unittest.mock.Mock(vollikash_store_call=make, vollikash_store_answer=answer)
+        with unittest.mock.patch("vollikash._memory._library", return_value=library):
+            self.assertEqual(self.store._server.ask(_calls.TABLES), _calls.MEMORY_REFUSED)
+            for call in (self.store.tables, lambda: self.store.insert("t", 1, "x")):
+                with self.assertRaises(MemoryError):
+                    call()
+            with self.assertRaisesRegex(MemoryError, "^row 1: "):
+                self.store._expect_done(self.ahead_of(_calls.TABLES))
+            content[BEFORE_DETAIL:] = (10).to_bytes(8, "big")
+            with self.assertRaises(StoreFault) as caught:
+                self.store.tables()
+        self.assertEqual((caught.exception.detail, self.store.tables()), (10, ["t"]))
+
+    def ahead_of(self, *calls):
+        """What has made these calls."""
+        ahead = self.store._server.ahead()
+        ahead.send(calls)
+        return ahead
+
+    def test_answers_are_not_copied(self):
+        """No byte of an answer is copied to see whether it is that a disk is full."""
+
+        class Answer(bytes):
+            def __getitem__(self, place):
+                raise AssertionError("a part is copied")
+
+        full = Answer(len(FULL).to_bytes(4, "big") + FULL)
+        for answer, is_full in ((full, True), (Answer(1 << 20), False), (Answer(b"".join((full, b"x"))), False)):
+            self.assertIs(_calls.is_full(answer), is_full)
 
     def test_calls(self):
         self.store.insert("t", 1, "x")

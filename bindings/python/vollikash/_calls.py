@@ -75,11 +75,11 @@ def _framed(*parts: bytes) -> bytes:
 DONE = _framed(bytes([_IS_DONE]))
 _IS_THERE = bytes([_IS_ROW]) + _SOME
 
-# What answers have if a disk is full.
-_FULL = b"".join((
+# The answer that a disk is full.
+_FULL = _framed(
     bytes([_IS_REFUSED]), Code.STORE_FAULT.to_bytes(8, "big"), 3 * _NONE, _SOME,
     (13).to_bytes(8, "big"),
-))
+)
 
 # The answer that memory ran out.
 MEMORY_REFUSED = _framed(bytes([_IS_REFUSED]), Code.NO_MEMORY.to_bytes(8, "big"), 4 * _NONE)
@@ -406,7 +406,7 @@ def is_refused(data: bytes) -> bool:
 
 def is_full(data: bytes) -> bool:
     """Return whether an answer is that a call is refused since a disk is full."""
-    return data[HEADER:] == _FULL
+    return data == _FULL
 
 
 def _whole(data: bytes, read: Callable[[_Answer], _T]) -> _T:
