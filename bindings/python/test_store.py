@@ -157,9 +157,9 @@ class Folder(unittest.TestCase):
         with unittest.mock.patch.object(store._server, "ask", side_effect=AssertionError("it is sent")):
             yield
 
-    def run_python(self, text, *words, **options):
+    def run_python(self, text, *words, variables=(), **options):
         """What a Python program prints."""
-        environment = {**os.environ, "PYTHONPATH": str(HERE)}
+        environment = {**os.environ, "PYTHONPATH": str(HERE), **dict(variables)}
         command = [sys.executable, "-c", textwrap.dedent(text), *map(str, words)]
         return subprocess.run(
             command, env=environment, stdout=subprocess.PIPE, text=True, check=True, timeout=120, **options
@@ -1626,6 +1626,27 @@ class Memory(unittest.TestCase):
             if is_done is not None:
                 self.assertEqual(self.store.get("t", key) is not None, is_done)
         self.assertGreater(told, 0)
+
+
+class Installed(Folder):
+    """The package where a part is missing."""
+
+    def test_no_library(self):
+        """A store in memory is an error that names the library, also if it is another one."""
+        for name, why in (("nowhere.so", "No such file or directory"), ("libc.so.6", "undefined symbol")):
+            with self.subTest(name):
+                printed = self.run_python("""
+                    import vollikash
+                    store = vollikash.from_bytes
+                    for call in (store, vollikash.from_bytes, lambda: vollikash.check(b"")):
+                        try:
+                            call()
+                        except OSError as error:
+                            print(error)
+                """, variables={"VOLLIKASH_LIBRARY": name})
+                self.assertEqual(len(printed.splitlines()), 3, printed)
+                for line in printed.splitlines():
+                    self.assertRegex(line, rf"^the C library cannot be loaded \(.*{name}: .*{why}.*\): VOLLI")
 
 
 class StoresInProcess(InProcess, Stores):

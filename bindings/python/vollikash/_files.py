@@ -49,10 +49,8 @@ def _find() -> str:
     return "libvollikash.so.1"
 
 
-@functools.lru_cache(maxsize=None)
-def _library() -> ctypes.CDLL:
+def _typed(library: ctypes.CDLL) -> ctypes.CDLL:
     """Return the library, with the types of its calls."""
-    library = ctypes.CDLL(os.environ.get("VOLLIKASH_LIBRARY") or _find())
     library.vollikash_version.argtypes = ()
     library.vollikash_check.argtypes = _FILE + _FAULT
     library.vollikash_concat_many.argtypes = _FILE + _LENGTHS + _OUT + _FAULT
@@ -72,6 +70,16 @@ def _library() -> ctypes.CDLL:
     library.vollikash_store_close.argtypes = held
     library.vollikash_store_close.restype = None
     return library
+
+
+@functools.lru_cache(maxsize=None)
+def _library() -> ctypes.CDLL:
+    """Return the library. Raise OSError if it cannot be loaded, or is another one."""
+    try:
+        return _typed(ctypes.CDLL(os.environ.get("VOLLIKASH_LIBRARY") or _find()))
+    except (AttributeError, OSError) as error:
+        why = f"the C library cannot be loaded ({error}): VOLLIKASH_LIBRARY can name one"
+        raise OSError(why) from error
 
 
 class Held(ctypes.Structure):
