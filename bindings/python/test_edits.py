@@ -19,7 +19,7 @@ import unittest
 import unittest.mock
 
 import vollikash
-from transports import InProcess
+from transports import InProcess, interrupted
 from vollikash import UNDEFINED, ChangesetError, ConflictError, Schema, StoreError
 
 HERE = pathlib.Path(__file__).resolve().parent
@@ -461,6 +461,28 @@ if sys.stdin.buffer.read():
             store.insert_many("t", [(1,), (1,)])
         with self.assertRaisesRegex(vollikash.ProgramError, "the store is closed"):
             store.tables()
+
+    def test_interrupts_between_lines(self):
+        """The store can be written again, also while the exception is kept."""
+        file, keys = stores.header("t", 1, 0) + stores.insert(1, "y"), itertools.count(2)
+        for call in (
+            lambda store: store.insert_many("k", [(next(keys),)]),
+            lambda store: store.apply(file, on_conflict=lambda conflict: "omit"),
+        ):
+            for number in itertools.count():
+                with self.store() as store:
+                    store.insert("t", 1, "x")
+                    errors = [interrupted(lambda: call(store), vollikash.Store._let_read, number)]
+                    store.insert("t", 2, "x")
+                    with store.transaction():
+                        errors.append(interrupted(lambda: call(store), vollikash.Store._let_read, number))
+                        store.insert("t", 3, "x")
+                    store.insert_many("t", [(4, "x")])
+                    self.assertEqual(list(store.rows("t")), [(key, "x") for key in range(1, 5)])
+                if not any(errors):
+                    break
+                self.assertTrue(all(errors))
+            self.assertGreater(number, 2)
 
     def test_session(self):
         with self.store() as store, store.session("t", "k") as session:

@@ -7,6 +7,7 @@ import concurrent.futures
 import contextlib
 import copy
 import gc
+import itertools
 import math
 import os
 import pathlib
@@ -25,8 +26,8 @@ import unittest.mock
 import warnings
 
 import vollikash
-from transports import InProcess
-from vollikash import _calls
+from transports import InProcess, interrupted
+from vollikash import _calls, _memory
 from vollikash import (
     UNDEFINED, Busy, ChangesetError, Code, ConflictError, Interrupted, ProgramError, StoreError, StoreFault,
 )
@@ -1591,6 +1592,21 @@ class Memory(unittest.TestCase):
             found = [self.store.get("t", 2 * key + half) is not None for half in range(2)]
             self.assertEqual(found[0], found[1])
         self.store.to_bytes()
+
+    def test_interrupts_between_lines(self):
+        """After Ctrl-C at any line of a call the store goes on, also while the exception is kept."""
+        errors = []
+        for number in itertools.count():
+            errors.append(interrupted(lambda: self.store.put("t", number, "x"), _memory.Memory.ask, number))
+            self.store.put("t", number, "y")
+            with self.assertRaises(ZeroDivisionError), self.store.transaction():
+                errors.append(interrupted(self.store.tables, _memory.Memory.ask, number))
+                self.store.put("t", number, "z")
+                raise ZeroDivisionError
+            self.assertEqual(self.store.get("t", number), (number, "y"))
+            if errors[-1] is None:
+                break
+        self.assertGreater(number, 12)
 
     def test_fork(self):
         """A child has no store, also if another thread was in a call."""

@@ -2,6 +2,7 @@
 import ctypes
 import os
 import struct
+import sys
 import threading
 import weakref
 from types import TracebackType
@@ -10,6 +11,7 @@ from typing import Iterable, List, Optional, Tuple, Type
 from ._calls import DONE, HEADER, MEMORY_REFUSED, ROLL_BACK, is_full, is_refused
 from ._errors import Code, Interrupted, ProgramError, refused
 from ._files import Held, _Fault, _library
+from ._frames import is_run_by
 
 # What a call leaves that was not made.
 _NOT_MADE = (1 << 64) - 1
@@ -60,7 +62,8 @@ class Memory:
 
     def _expect_free(self) -> None:
         """Raise RuntimeError in a handler of a signal that has come within a call."""
-        if not self._is_free:
+        # What makes the call is the second frame.
+        if not self._is_free and is_run_by(sys._getframe(2), _ASKING, self):
             raise RuntimeError("another call of the store waits for its answer")
 
     def ask(self, frame: bytes) -> bytes:
@@ -201,6 +204,10 @@ class Direct:
     def done(self) -> List[bytes]:
         """Return the calls that are answered DONE, if they are kept."""
         return self._done
+
+
+# What makes a call: a handler of a signal that makes one runs above it.
+_ASKING = {Memory.ask.__code__}
 
 
 def _leave_all() -> None:

@@ -21,6 +21,7 @@ from typing import Iterable, List, Optional, Sequence, Tuple, Type, Union
 
 from ._calls import DONE, HEADER, is_refused
 from ._errors import Interrupted, ProgramError
+from ._frames import is_run_by
 
 # How many bytes are read at once, and how many of what a program says are kept.
 _MOST, _SAID = 1 << 16, 1 << 13
@@ -168,11 +169,8 @@ class Process:
         if self._is_free:
             return
         # What makes the call is the second frame.
-        frame = sys._getframe(2)
-        while frame is not None:
-            if frame.f_code in _EXCHANGING and frame.f_locals.get("self") in (self, self._ahead):
-                raise RuntimeError("another call of the store waits for its answer")
-            frame = frame.f_back  # type: ignore[assignment]
+        if is_run_by(sys._getframe(2), _EXCHANGING, self, self._ahead):
+            raise RuntimeError("another call of the store waits for its answer")
         # What has sent calls ahead goes on where it was interrupted.
         if self._ahead is None:
             self.end()

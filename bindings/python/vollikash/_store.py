@@ -20,6 +20,7 @@ from ._errors import (
     StoreError, StoreFault, TableExists, TransactionEnded, UnknownColumn,
 )
 from ._files import Bytes, as_bytes
+from ._frames import is_run_by
 from ._memory import Direct, Memory
 from ._process import Ahead, Process
 from ._schema import Schema
@@ -191,7 +192,7 @@ class Store:
         self._block: Callable[[], Optional[_Block]] = lambda: None
         self._owner: Optional[object] = None
         self._tables: Dict[str, _Table] = {}
-        # Whether a function or an iterator of the caller runs within a call.
+        # Whether a function or an iterator of the caller may run within a call.
         self._is_reading = False
         # What returns the session that is open, or None if nobody has it.
         self._session: Optional[Callable[[], Optional[Session]]] = None
@@ -248,7 +249,18 @@ class Store:
         if self._owner is not None and self._owner is not _task():
             raise RuntimeError("another task has a transaction open")
         if self._is_reading and not is_read:
-            raise RuntimeError("a function or an iterator of a call can only read the store")
+            if is_run_by(sys._getframe(), _READING, self):
+                raise RuntimeError("a function or an iterator of a call can only read the store")
+            # The exception of a signal has left the call before it reset this.
+            self._is_reading, self._is_watched = False, self._is_begun
+
+    def _let_read(self, call: Callable[[], _T]) -> _T:
+        """Return what functions or iterators of the caller make, which can only read the store."""
+        self._is_reading = self._is_watched = True
+        try:
+            return call()
+        finally:
+            self._is_reading, self._is_watched = False, self._is_begun
 
     def _tell(self, frame: bytes) -> None:
         """Make a call that returns nothing."""
@@ -401,13 +413,13 @@ class Store:
         it is their own. Otherwise leave none of the rows after one.
         """
         ahead = self._server.ahead(keeps=not is_own)
+
+        def send() -> None:
+            with ahead:
+                ahead.send(_calls.insertions(table, rows))
+
         try:
-            try:
-                self._is_reading = self._is_watched = True
-                with ahead:
-                    ahead.send(_calls.insertions(table, rows))
-            finally:
-                self._is_reading, self._is_watched = False, self._is_begun
+            self._let_read(send)
             self._expect_done(ahead)
         except BaseException:
             if not is_own and self._server.is_open:
@@ -593,12 +605,9 @@ class Store:
         """Apply a changeset whose conflicts a function decides."""
         try:
             conflicts = self._ask(_calls.rehearse(file, ignores_noop), _calls.read_conflicts)
-            self._is_reading = self._is_watched = True
-            choices = decided(conflicts, file, handler)
+            choices = self._let_read(lambda: decided(conflicts, file, handler))
         except Interrupted as error:
             raise self._unfinished(error) from error
-        finally:
-            self._is_reading, self._is_watched = False, self._is_begun
         frame = _calls.apply_chosen(file, ignores_noop, conflicts, choices)
         return self._ask(frame, _calls.read_report)
 
@@ -677,6 +686,10 @@ class Store:
         `SessionOpen`.
         """
         return Session(self, tables)
+
+
+# What runs functions and iterators of the caller.
+_READING = {Store._let_read.__code__}
 
 
 def from_bytes(file: Bytes = b"") -> Store:
