@@ -2,10 +2,9 @@
 """Changesets between stores and ordinary SQLite databases, in both directions.
 
 SQLite's library records, inverts and applies, by `sqlite.c`. If it is not there with its session
-extension, these tests are skipped. Stores are those of `vollikash.open`. Keys are numbered by
-`vollikash.number_keys`. The program and the libraries have to be built first.
+extension, these tests are skipped. Stores are those of `vollikash.open`, in memory. Keys are
+numbered by `vollikash.number_keys`. The libraries have to be built first.
 """
-import os
 import pathlib
 import random
 import sys
@@ -13,14 +12,11 @@ import tempfile
 import unittest
 
 from support import library
-from support.calls import CALLS_PROGRAM
 from support.program import TOP, main
 
 sys.path.insert(0, str(TOP / "bindings/python"))
 
 import vollikash  # noqa: E402
-
-os.environ["VOLLIKASH_CALLS"] = str(CALLS_PROGRAM)
 
 # Tables of one to three columns in the key: a name, the columns, and those of the key in column
 # order.

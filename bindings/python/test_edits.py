@@ -13,11 +13,11 @@ import pathlib
 import random
 import sqlite3
 import sys
-import tempfile
 import threading
 import unittest
 import unittest.mock
 
+import transports
 import vollikash
 from transports import InProcess, interrupted
 from vollikash import UNDEFINED, ChangesetError, ConflictError, Schema, StoreError
@@ -77,17 +77,12 @@ def rows_of(store):
     return {table: set(store.rows(table)) for table in SCHEMAS}
 
 
-class Folder(unittest.TestCase):
+class Folder(transports.Folder):
     """A folder for each test, with stores."""
 
-    def setUp(self):
-        folder = tempfile.TemporaryDirectory()
-        self.addCleanup(folder.cleanup)
-        self.folder = pathlib.Path(folder.name)
-
-    def store(self, path=":memory:"):
-        """An open store with the tables."""
-        store = vollikash.open(path)
+    def store(self, path=None):
+        """An open store with the tables, which is a new one without a path."""
+        store = vollikash.open(path or self.new())
         self.addCleanup(store.close)
         for name, schema in SCHEMAS.items():
             store.create(name, *schema)
@@ -146,7 +141,7 @@ class Texts(Folder):
 
     def test_session(self):
         """A session records them."""
-        with self.store(self.folder / "store") as store:
+        with self.store() as store:
             store.insert("t", 1, "before\n")
             with store.session("t") as session:
                 store.insert("t", 2, "new\n")
@@ -213,7 +208,7 @@ class Reads(Folder):
                     self.assertEqual(store.schema(name), schema)
                 self.assertEqual(store.schema(odd[0]), (odd[1], ("é", "'"), ('x"y',)))
                 self.expect("NoTable", store.schema, "v")
-        with vollikash.open(":memory:") as store:
+        with vollikash.open(self.new()) as store:
             self.assertEqual(store.tables(), [])
             store.create("b", ["x"], key=["x"])
             store.create("A", *SCHEMAS["u"])
@@ -230,7 +225,7 @@ class Reads(Folder):
     def test_widths(self):
         """Rows of few and of many columns are read."""
         values = (0, -1, 1 << 62, None, b"", b"\0\xff", "", "'", "''", "a\nb", "|", "x|'\n'|", "NULL", "X'00'")
-        with vollikash.open(":memory:") as store:
+        with vollikash.open(self.new()) as store:
             for width in (1, 2, 63, 64, 65, 66, 130):
                 columns = [f"c{place}" for place in range(width)]
                 store.create(f"t{width}", columns, key=columns[:1])
@@ -284,7 +279,7 @@ class Transactions(Folder):
     """Edits that are carried out together."""
 
     def test_block(self):
-        with self.store(self.folder / "store") as store:
+        with self.store() as store:
             store.insert("t", 1, "x")
             with store.transaction():
                 store.insert("t", 2, "y\n")
@@ -418,7 +413,7 @@ if sys.stdin.buffer.read():
 """)
         path.chmod(0o755)
         with unittest.mock.patch.dict(os.environ, VOLLIKASH_CALLS=str(path)):
-            store = vollikash.open(":memory:")
+            store = vollikash.open(self.folder / "store")
         self.addCleanup(store.close)
         return store
 
@@ -553,7 +548,7 @@ class Stacks(Folder):
     """Actions that are undone and done again."""
 
     def test_actions(self):
-        with self.store(self.folder / "store") as store:
+        with self.store() as store:
             stack = store.undo_stack("t", "k")
             with stack.action("add"):
                 store.insert("t", 1, "x\ny")
@@ -819,7 +814,7 @@ class Conflicts(Folder):
 
     def filled(self, tables):
         """A store with the tables of the model."""
-        store = vollikash.open(":memory:")
+        store = vollikash.open(self.new())
         self.addCleanup(store.close)
         for name, table in tables.items():
             columns = [column.decode() for column in table.columns]
@@ -1098,7 +1093,7 @@ class Exchanges(Folder):
             'CREATE TABLE "a ""b"""(x TEXT, y INTEGER NOT NULL, z, PRIMARY KEY(y, x))',
             """INSERT INTO "a ""b\""" VALUES('one' || char(10), 1, x'00ff'), ('', -5, NULL)""",
         )
-        with self.store(self.folder / "store") as store:
+        with self.store() as store:
             store.load_from(base, 'a "b"')
             self.assertEqual(store.schema('a "b"'), (("x", "y", "z"), ("x", "y"), ()))
             rows = {("one\n", 1, b"\x00\xff"), ("", -5, None)}
@@ -1163,7 +1158,7 @@ class Exchanges(Folder):
         base = self.database("CREATE TABLE m(a INTEGER PRIMARY KEY, b NOT NULL)")
         rows = [(key, f"row {key}") for key in range(5000)]
         base.executemany("INSERT INTO m VALUES(?, ?)", rows)
-        with self.store(self.folder / "store") as store:
+        with self.store() as store:
             store.load_from(base, "m")
             other = self.database()
             store.save_to(other, "m")
@@ -1174,7 +1169,7 @@ class Sizes(Folder):
     """Many rows, and long changesets."""
 
     def test_insert_many(self):
-        with self.store(self.folder / "store") as store:
+        with self.store() as store:
             count = 5000
             store.insert_many("t", ((key, f"row\n{key}") for key in range(count)))
             self.assertEqual(sum(1 for _ in store.rows("t")), count)
@@ -1247,7 +1242,7 @@ class Sizes(Folder):
 
     def test_long_changesets(self):
         rows = [(key, os.urandom(1 << 20)) for key in range(20)]
-        with self.store(self.folder / "store") as store:
+        with self.store() as store:
             store.insert_many("t", rows)
             self.assertEqual(list(store.rows("t")), rows)
             builder = vollikash.Builder()
@@ -1292,6 +1287,10 @@ class ConflictsInProcess(InProcess, Conflicts):
 
 
 class ExchangesInProcess(InProcess, Exchanges):
+    """The same, in this process."""
+
+
+class SizesInProcess(InProcess, Sizes):
     """The same, in this process."""
 
 

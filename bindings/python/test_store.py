@@ -13,6 +13,7 @@ import os
 import pathlib
 import pickle
 import random
+import shutil
 import signal
 import sqlite3
 import subprocess
@@ -25,9 +26,10 @@ import unittest
 import unittest.mock
 import warnings
 
+import transports
 import vollikash
 from transports import InProcess, interrupted
-from vollikash import _calls, _memory
+from vollikash import _calls, _files, _memory
 from vollikash import (
     UNDEFINED, Busy, ChangesetError, Code, ConflictError, Interrupted, ProgramError, StoreError, StoreFault,
 )
@@ -84,14 +86,14 @@ write(bytes.fromhex("0a00000000000000010000000004000000"))
 """
 
 
-def store_with_table(path=":memory:", **given):
+def store_with_table(path, **given):
     """A store with a table t of two columns, of which the first is its key."""
     store = vollikash.open(path, **given)
     store.create("t", ["a", "b"], key=["a"])
     return store
 
 
-def store_with_rule(path=":memory:", *rows):
+def store_with_rule(path, *rows):
     """A store with these rows in a table n. Its first column is the key, its second is NOT NULL."""
     store = vollikash.open(path)
     store.create("n", ["a", "b"], key=["a"], refuses=["b"])
@@ -118,13 +120,8 @@ def pickled(error):
     return pickle.loads(pickle.dumps(error))
 
 
-class Folder(unittest.TestCase):
-    """A folder for each test."""
-
-    def setUp(self):
-        folder = tempfile.TemporaryDirectory()
-        self.addCleanup(folder.cleanup)
-        self.folder = pathlib.Path(folder.name)
+class Folder(transports.Folder):
+    """A folder for each test, with programs that it runs."""
 
     def program(self, text):
         """Makes a program of these lines of Python the one that is run, in place of `changeset-calls`."""
@@ -170,8 +167,12 @@ class Folder(unittest.TestCase):
 class Stores(Folder):
     """What a store answers."""
 
+    def test_transport(self):
+        with vollikash.open(self.new()) as store:
+            self.assertIs(type(store._server), self.transport)
+
     def test_rows(self):
-        with store_with_table() as store:
+        with store_with_table(self.new()) as store:
             store.insert("t", 2, "two")
             store.insert("t", -(1 << 63), None)
             store.insert("t", (1 << 63) - 1, b"\x00\xff")
@@ -186,7 +187,7 @@ class Stores(Folder):
     def test_names(self):
         """A name is any text."""
         for name in ("select", 'a"; DELETE', "t'", "-- x", " ", "\u00fc\U0001f600", "a\nb", "x" * 1000):
-            with self.subTest(name), vollikash.open(":memory:") as store:
+            with self.subTest(name), vollikash.open(self.new()) as store:
                 store.create(name, [name, "b"], key=[name])
                 with store.session(name) as session:
                     store.insert(name, 1, 2)
@@ -201,14 +202,14 @@ class Stores(Folder):
         for start in range(0, 0x10000, 256):
             codes = (code for code in range(start, start + 256) if not 0xD800 <= code < 0xE000)
             texts.append("".join(map(chr, codes)))
-        with store_with_table() as store:
+        with store_with_table(self.new()) as store:
             for key, text in enumerate(texts):
                 store.insert("t", key, text)
             self.assertEqual([row[1] for row in store.rows("t")], texts)
 
     def test_values_that_no_row_holds(self):
         """Each is refused before anything is sent."""
-        with store_with_table() as store, self.unasked(store):
+        with store_with_table(self.new()) as store, self.unasked(store):
             for value in UNFIT:
                 after = (value,) if isinstance(value, list) else value
                 for call in (
@@ -229,7 +230,7 @@ class Stores(Folder):
 
     def test_arguments_that_are_wrong(self):
         """Each is refused before anything is sent."""
-        with store_with_table() as store, self.unasked(store):
+        with store_with_table(self.new()) as store, self.unasked(store):
             for name in ("\ud800", 7, None, ["t"], b"t"):
                 for call in (
                     lambda: store.create(name, ["a"], key=["a"]), lambda: store.session("t", name),
@@ -256,7 +257,7 @@ class Stores(Folder):
 
     def test_refusals(self):
         """A refusal has its class, its code and what it is about, and the store goes on."""
-        with store_with_table() as store:
+        with store_with_table(self.new()) as store:
             store.insert("t", 1, "z")
             for call, kind, code, about in (
                 (lambda: store.insert("t", 1, 2), vollikash.KeyTaken, Code.KEY_TAKEN, ("t", None, (1,))),
@@ -293,7 +294,7 @@ class Stores(Folder):
     def test_texts_of_errors(self):
         """They are short and on one line, whatever a name and a key are."""
         long, key = "n\n\u202e" * 99, ("k" * 999, b"\0" * 999, 7)
-        with vollikash.open(":memory:") as store:
+        with vollikash.open(self.new()) as store:
             store.create(long, [long, "b", "c"], key=[long, "b", "c"])
             store.insert(long, *key)
             for call in (
@@ -324,7 +325,7 @@ class Stores(Folder):
 
     def test_declarations(self):
         """What makes no table is refused before anything is sent."""
-        with vollikash.open(":memory:") as store:
+        with vollikash.open(self.new()) as store:
             for columns, key, refuses, why in (
                 ([], [], (), "columns is empty: a table has at least one column"),
                 ([], ["a"], (), "columns is empty"),
@@ -342,7 +343,7 @@ class Stores(Folder):
             self.assertEqual(store.tables(), [])
 
     def test_applies(self):
-        with store_with_table() as store:
+        with store_with_table(self.new()) as store:
             store.insert("t", 1, "z")
             with self.assertRaises(ConflictError) as caught:
                 store.apply(FILE)
@@ -367,7 +368,7 @@ class Stores(Folder):
             self.assertEqual(list(store.rows("t")), [])
 
     def test_wider_tables(self):
-        with vollikash.open(":memory:") as store:
+        with vollikash.open(self.new()) as store:
             store.create("t", ["a", "b", "c"], key=["a"])
             with self.assertRaises(vollikash.Wider) as caught:
                 store.apply(FILE)
@@ -375,7 +376,7 @@ class Stores(Folder):
             self.assertRegex(str(caught.exception), "^Wider: .* the table at index 0 of the changeset$")
 
     def test_sessions(self):
-        with store_with_table() as store:
+        with store_with_table(self.new()) as store:
             with store.session("t") as session:
                 self.assertTrue(session.is_empty())
                 store.insert("t", 1, "x")
@@ -395,7 +396,7 @@ class Stores(Folder):
 
     def test_threads_of_sessions(self):
         """A session belongs to the thread that has opened it."""
-        with store_with_table() as store, concurrent.futures.ThreadPoolExecutor(1) as pool:
+        with store_with_table(self.new()) as store, concurrent.futures.ThreadPoolExecutor(1) as pool:
             with store.session("t") as session:
                 for call in (session.is_empty, session.changeset, session.undo, session.close,
                              lambda: session.attach("t")):
@@ -406,12 +407,13 @@ class Stores(Folder):
 
     def test_no_copies(self):
         """A store and a session cannot be copied, and say what they are."""
-        with store_with_table(self.folder / "a.db") as store, store.session("t") as session:
+        path = self.new()
+        with store_with_table(path) as store, store.session("t") as session:
             for thing in (store, session):
                 for call in (copy.copy, copy.deepcopy, pickle.dumps):
                     with self.assertRaisesRegex(TypeError, "cannot be copied or pickled"):
                         call(thing)
-            shown = f"<vollikash.Store {str(self.folder / 'a.db')!r}, open>"
+            shown = f"<vollikash.Store {str(path)!r}, open>"
             self.assertEqual((repr(store), repr(session)), (shown, f"<vollikash.Session of {shown}, open>"))
         self.assertEqual(repr(store), shown.replace("open", "closed"))
         self.assertIn("closed>, closed>", repr(session))
@@ -422,7 +424,7 @@ class Pages(Folder):
 
     def test_pages(self):
         """Each row comes once, whatever the size of a page is."""
-        with store_with_table() as store:
+        with store_with_table(self.new()) as store:
             rows = [(key, f"row {key}") for key in range(20)]
             store.insert_many("t", rows)
             for size in (1, 3, 19, 20, 21):
@@ -436,7 +438,7 @@ class Pages(Folder):
                     self.assertEqual(list(store.rows("t", 7, 1)), rows[8:9])
 
     def test_keys_of_several_columns(self):
-        with vollikash.open(":memory:") as store, unittest.mock.patch("vollikash._store._PAGE", 2):
+        with vollikash.open(self.new()) as store, unittest.mock.patch("vollikash._store._PAGE", 2):
             store.create("u", ["a", "b", "c"], key=["a", "c"])
             rows = [(a, "x", c) for a in ("", "b", b"1") for c in (0, 1, -1)]
             store.insert_many("u", rows)
@@ -449,7 +451,7 @@ class Pages(Folder):
 
     def test_edits_meanwhile(self):
         """An iterator goes on after the last row that it has returned."""
-        with store_with_table() as store, unittest.mock.patch("vollikash._store._PAGE", 4):
+        with store_with_table(self.new()) as store, unittest.mock.patch("vollikash._store._PAGE", 4):
             store.insert_many("t", [(key, "x") for key in range(10)])
             seen = []
             for key, value in store.rows("t"):
@@ -465,7 +467,7 @@ class Pages(Folder):
         """An iterator of a closed store raises an error at the end of its page."""
         for size in (4, 100):
             with unittest.mock.patch("vollikash._store._PAGE", size):
-                store = store_with_table()
+                store = store_with_table(self.new())
                 store.insert_many("t", [(key, "x") for key in range(10)])
                 unused, begun = store.rows("t"), store.rows("t")
                 next(begun)
@@ -476,7 +478,7 @@ class Pages(Folder):
 
     def test_order(self):
         """It is that of the bytes of keys."""
-        with store_with_table() as store:
+        with store_with_table(self.new()) as store:
             for key in (1, -1, "b", "aa", b"\0", 256):
                 store.insert("t", key, None)
             self.assertEqual([row[0] for row in store.rows("t")], [1, 256, -1, "b", "aa", b"\0"])
@@ -494,7 +496,7 @@ class Rules(Folder):
 
     def expect_conflict(self, rows, file, number, kind, **choices):
         """Asserts that a conflict ends an apply to these rows, which stay."""
-        with self.subTest(rows=rows, **choices), store_with_rule(":memory:", *rows) as store:
+        with self.subTest(rows=rows, **choices), store_with_rule(self.new(), *rows) as store:
             with self.assertRaises(ConflictError) as caught:
                 store.apply(file, **choices)
             error = pickled(caught.exception)
@@ -504,14 +506,14 @@ class Rules(Folder):
 
     def expect_left(self, rows, file, conflicts, **choices):
         """Asserts that an apply to these rows meets these conflicts of n, and that the rows stay."""
-        with self.subTest(rows=rows, **choices), store_with_rule(":memory:", *rows) as store:
+        with self.subTest(rows=rows, **choices), store_with_rule(self.new(), *rows) as store:
             report = store.apply(file, **choices)
             self.assertEqual(report, ([(*met, "n", (1,)) for met in conflicts], [], 0, 0))
             self.assertEqual(list(store.rows("n")), rows)
 
     def test_lines(self):
         """None is refused before a key that is taken, and behind a row that is missing."""
-        with store_with_rule(":memory:", (1, "x"), (2, "y")) as store:
+        with store_with_rule(self.new(), (1, "x"), (2, "y")) as store:
             for call, number, name in (
                 (lambda: store.insert("n", 3, None), 39, "NotNull"),
                 (lambda: store.insert("n", 1, None), 39, "NotNull"),
@@ -530,13 +532,13 @@ class Rules(Folder):
     def test_columns(self):
         """They are named in any order and by any collection; the key may be among them, and the others take None."""
         for refuses in (["d", "a"], ("a", "d", "a"), {"a", "b", "d"}, {"d": 1, "a": 2}.keys(), frozenset(["d", "a"])):
-            with self.subTest(refuses=refuses), vollikash.open(":memory:") as store:
+            with self.subTest(refuses=refuses), vollikash.open(self.new()) as store:
                 store.create("t", ["a", "b", "c", "d"], key=["b"], refuses=refuses)
                 store.insert("t", 1, 2, None, 4)
                 self.expect_refused(lambda: store.insert("t", None, 3, 3, 4), 39, "NotNull")
                 self.expect_refused(lambda: store.insert("t", 1, 3, 3, None), 39, "NotNull")
                 self.assertEqual(list(store.rows("t")), [(1, 2, None, 4)])
-        with vollikash.open(":memory:") as store:
+        with vollikash.open(self.new()) as store:
             store.create("t", ["a", 'not "null'], key=["a"], refuses=['not "null'])
             self.expect_refused(lambda: store.insert("t", 1, None), 39, "NotNull")
             store.create("u", ["a", "b"], key=["a"], refuses=[])
@@ -544,7 +546,7 @@ class Rules(Folder):
 
     def test_names_that_are_no_columns(self):
         """Each is told before anything is sent."""
-        with vollikash.open(":memory:") as store:
+        with vollikash.open(self.new()) as store:
             for refuses in (["c"], ["a", "B"], ["b", ""], ["ab"], [None], ["n"], [7]):
                 with self.subTest(refuses=refuses), self.assertRaises(ValueError):
                     store.create("n", ["a", "b"], key=["a"], refuses=refuses)
@@ -573,7 +575,7 @@ class Rules(Folder):
         self.expect_left([], NULL_UPDATE, [("notfound", "omit")], notfound="omit", constraint="omit")
 
     def test_choices_that_are_none(self):
-        with store_with_rule() as store:
+        with store_with_rule(self.new()) as store:
             for choice in ("ignore", "Omit", "", None):
                 with self.subTest(choice), self.assertRaises(ValueError):
                     store.apply(NULL_INSERT, constraint=choice)
@@ -597,7 +599,7 @@ class Rules(Folder):
 
     def test_sessions(self):
         """What is left of an apply is neither told nor undone."""
-        with store_with_rule(":memory:", (1, "z"), (2, "y")) as store, store.session("n") as session:
+        with store_with_rule(self.new(), (1, "z"), (2, "y")) as store, store.session("n") as session:
             self.assertEqual(store.apply(NULL_INSERT, conflict="replace", constraint="omit").applied, 0)
             self.assertTrue(session.is_empty())
             self.assertEqual(session.changeset(), b"")
@@ -615,7 +617,7 @@ class Rules(Folder):
 
         The rows that this refuses are left out.
         """
-        with vollikash.open(":memory:") as source, store_with_rule(self.folder / "target.db") as target:
+        with vollikash.open(self.new()) as source, store_with_rule(self.new()) as target:
             source.create("n", ["a", "b"], key=["a"])
             with source.session("n") as session:
                 for key, value in ((1, "x"), (2, None), (3, b""), (4, None)):
@@ -661,7 +663,7 @@ class Files(Folder):
                 self.assertTrue(os.path.exists(name))
                 with vollikash.open(name) as store:
                     self.assertEqual(store.tables(), ["t"])
-        for name in (":memory:", b":memory:"):
+        for name in (":memory:", b":memory:", pathlib.Path(":memory:")):
             store_with_table(name).close()
         files = {os.path.basename(os.fsencode(name)) for name in names}
         self.assertEqual({name for name in os.listdir(b".") if not name.endswith(b"-wal")}, files)
@@ -680,10 +682,12 @@ class Files(Folder):
             with self.assertRaisesRegex(ValueError, "the path 'a.db' is not UTF-8"):
                 vollikash.open("a.db")
             with self.assertRaisesRegex(AssertionError, "it starts"):
-                vollikash.open(":memory:")
+                vollikash.open(self.new())
+            vollikash.open(":memory:").close()
             for given in ({"timeout": 0}, {"timeout": -1}, {"timeout": math.nan}, {"busy_timeout": -1}):
-                with self.subTest(given), self.assertRaises(ValueError):
-                    vollikash.open(":memory:", **given)
+                for path in (self.new(), ":memory:"):
+                    with self.subTest(path=path, **given), self.assertRaises(ValueError):
+                        vollikash.open(path, **given)
         self.assertEqual(os.listdir(folder), [])
 
     def test_waiting(self):
@@ -840,29 +844,29 @@ class Programs(Folder):
     def test_no_program(self):
         with unittest.mock.patch.dict(os.environ, VOLLIKASH_CALLS=str(self.folder / "nothing")):
             with self.assertRaisesRegex(ProgramError, "does not run: No such file"):
-                vollikash.open(":memory:")
+                vollikash.open(self.new())
         with unittest.mock.patch.dict(os.environ, PATH=str(self.folder)), \
                 unittest.mock.patch("pathlib.Path.exists", return_value=False):
             del os.environ["VOLLIKASH_CALLS"]
             with self.assertRaisesRegex(ProgramError, "there is no changeset-calls program: VOLLIKASH_CALLS"):
-                vollikash.open(":memory:")
+                vollikash.open(self.new())
 
     def test_one_that_ends(self):
         self.program("raise SystemExit(3)")
         with self.assertRaisesRegex(ProgramError, "the program has ended: exit status 3"):
-            vollikash.open(":memory:")
+            vollikash.open(self.new())
         self.program("import sys; sys.exit('no\\nmore')")
         with self.assertRaisesRegex(ProgramError, "the program has ended: no\nmore$") as caught:
-            vollikash.open(":memory:")
+            vollikash.open(self.new())
         self.assertEqual(caught.exception.said, "no\nmore\n")
 
     def test_one_that_hangs(self):
         self.program("import time; time.sleep(1000)")
         started = time.monotonic()
         with self.assertRaisesRegex(ProgramError, "has not answered in 0.3 seconds"):
-            vollikash.open(":memory:", timeout=0.3)
+            vollikash.open(self.new(), timeout=0.3)
         self.slow(1000, 7)
-        store = store_with_table(timeout=1)
+        store = store_with_table(self.new(), timeout=1)
         with self.assertRaisesRegex(ProgramError, "has not answered in 1 seconds"):
             store.insert("t", 1, 2)
         with self.assertRaisesRegex(ProgramError, "the store is closed"):
@@ -871,12 +875,12 @@ class Programs(Folder):
 
     def test_no_timeout(self):
         self.slow(0.3, 7)
-        with store_with_table(timeout=None) as store:
+        with store_with_table(self.new(), timeout=None) as store:
             store.insert("t", 1, "x")
             self.assertEqual(list(store.rows("t")), [(1, "x")])
 
     def test_one_that_is_killed(self):
-        store = store_with_table()
+        store = store_with_table(self.new())
         os.kill(number_of(store), 9)
         for _ in range(2):
             with self.assertRaises(ProgramError):
@@ -903,7 +907,7 @@ class Programs(Folder):
             os.write(1, len(content).to_bytes(4, "big") + content)
         """)
         with self.assertRaisesRegex(ProgramError, "the program has version 2 of the calls, and not 1"):
-            vollikash.open(":memory:")
+            vollikash.open(self.new())
 
     def test_malformed_answers(self):
         """Each is an error, and the store is closed."""
@@ -938,7 +942,7 @@ class Programs(Folder):
                     write(bytes.fromhex({answer!r}))
                     stdin.read()
                 """)
-                with self.subTest(answer), vollikash.open(":memory:") as store:
+                with self.subTest(answer), vollikash.open(self.new()) as store:
                     for _ in range(2):
                         with self.assertRaises(ProgramError) as caught:
                             call(store)
@@ -963,7 +967,7 @@ class Programs(Folder):
             os.write(1, bytes.fromhex("00000001000000000100"))
             stdin.read()
         """)
-        with vollikash.open(":memory:") as store:
+        with vollikash.open(self.new()) as store:
             self.assertEqual(store.get("t", 1), ("x" * 300_000,))
             with self.assertRaisesRegex(ProgramError, "the program answered more than one call"):
                 store.insert("t", 1)
@@ -979,7 +983,7 @@ class Programs(Folder):
                 write(bytes(1))
             os.write(2, b"last words")
         """)
-        with vollikash.open(":memory:") as store:
+        with vollikash.open(self.new()) as store:
             for _ in range(20):
                 store.insert("t", 1)
             with self.assertRaisesRegex(ProgramError, "last words$") as caught:
@@ -991,13 +995,13 @@ class Programs(Folder):
                 read()
                 write(bytes(1))
         """)
-        with vollikash.open(":memory:") as store:
+        with vollikash.open(self.new()) as store:
             for _ in range(20):
                 store.insert("t", 1)
 
     def test_what_is_left(self):
         """Nothing runs after a store is closed, or that nobody has, or at the end of the process."""
-        store = store_with_table()
+        store = store_with_table(self.new())
         process = number_of(store)
         store.close()
         store.close()
@@ -1010,10 +1014,10 @@ class Programs(Folder):
         self.expect_ended(process)
         vollikash.open(self.folder / "left.db", busy_timeout=0).close()
         printed = self.run_python("""
-            import vollikash
-            store = vollikash.open(':memory:')
+            import sys, vollikash
+            store = vollikash.open(sys.argv[1])
             print(store._server._process.pid)
-        """)
+        """, self.new())
         self.expect_ended(int(printed))
 
     def test_files_that_are_opened_later(self):
@@ -1030,12 +1034,12 @@ class Programs(Folder):
                     raise AssertionError("the store is open")
                 os._exit(any(os.fstat(file.fileno()).st_size for file in files))
             atexit.register(late)
-            store = vollikash.open(":memory:")
+            store = vollikash.open("a.db")
             store.create("t", ["a"], key=["a"])
         """, cwd=self.folder)
 
     def test_calls_of_a_closed_store(self):
-        store = store_with_table()
+        store = store_with_table(self.new())
         rows, session = store.rows("t"), store.session("t")
         store.close()
         with warnings.catch_warnings():
@@ -1054,7 +1058,7 @@ class Programs(Folder):
 
     def test_an_exception(self):
         with self.assertRaises(KeyError):
-            with store_with_table() as store, store.session("t"):
+            with store_with_table(self.new()) as store, store.session("t"):
                 process = number_of(store)
                 raise KeyError
         self.expect_ended(process)
@@ -1084,7 +1088,7 @@ class Interrupts(Folder):
     def test_calls(self):
         """A call is done or refused, and the exception says which. The store goes on."""
         self.slow(1, 7)
-        with store_with_table() as store:
+        with store_with_table(self.new()) as store:
             for is_done in (True, False):
                 with self.assertRaises(KeyboardInterrupt) as caught, self.pressing(0.3):
                     store.insert("t", 1, "x")
@@ -1096,7 +1100,7 @@ class Interrupts(Folder):
     def test_a_second_one(self):
         """It ends the program."""
         self.slow(1000, 7)
-        store = store_with_table()
+        store = store_with_table(self.new())
         with self.assertRaises(Interrupted) as caught, self.pressing(0.3, 0.8):
             store.insert("t", 1, "x")
         self.assertIsNone(caught.exception.is_done)
@@ -1108,7 +1112,7 @@ class Interrupts(Folder):
         whether it is done.
         """
         self.slow(1, 7, 12)
-        with store_with_table() as store:
+        with store_with_table(self.new()) as store:
             with self.assertRaises(Interrupted) as caught, store.transaction(), self.pressing(0.3):
                 store.insert("t", 1, "x")
             self.assertIs(caught.exception.is_done, False)
@@ -1135,7 +1139,7 @@ class Interrupts(Folder):
         ):
             with self.subTest(number=number):
                 self.slow(1, number)
-                with store_with_table() as store:
+                with store_with_table(self.new()) as store:
                     store.put("t", 1, "x")
                     with self.assertRaises(Interrupted) as caught, self.pressing(0.3):
                         call(store)
@@ -1153,7 +1157,7 @@ class Interrupts(Folder):
         self.slow(1, 7)
         before = signal.signal(signal.SIGALRM, late)
         self.addCleanup(signal.signal, signal.SIGALRM, before)
-        with store_with_table() as store:
+        with store_with_table(self.new()) as store:
             signal.setitimer(signal.ITIMER_REAL, 0.3)
             with self.assertRaisesRegex(TimeoutError, "late"):
                 store.insert("t", 1, "x")
@@ -1231,7 +1235,7 @@ class Interrupts(Folder):
     def test_undo(self):
         """The stack has what the rows have, also if the call was interrupted."""
         self.slow(1, 14, 17)
-        with store_with_table() as store:
+        with store_with_table(self.new()) as store:
             stack = store.undo_stack("t")
             with stack.action("fill"):
                 store.insert("t", 1, "x")
@@ -1247,7 +1251,7 @@ class Interrupts(Folder):
         """One that returns changes nothing. One that calls the store gets an error."""
         seen = []
         self.slow(0.5, 7)
-        with store_with_table() as store:
+        with store_with_table(self.new()) as store:
             signal.signal(signal.SIGINT, lambda *_: seen.append(1))
             with self.pressing(0.2):
                 store.insert("t", 1, "x")
@@ -1269,7 +1273,7 @@ class Interrupts(Folder):
                 number += 1
                 write(b"\\5" + number.to_bytes(8, "big"))
         """)
-        store = vollikash.open(":memory:")
+        store = vollikash.open(self.new())
         self.addCleanup(store.close)
 
         ended = []
@@ -1384,12 +1388,12 @@ class Loads(Folder):
     """Many calls, and long ones."""
 
     def test_threads(self):
-        with store_with_table() as store, concurrent.futures.ThreadPoolExecutor(8) as pool:
+        with store_with_table(self.new()) as store, concurrent.futures.ThreadPoolExecutor(8) as pool:
             list(pool.map(lambda key: store.insert("t", key, f"row {key}"), range(1000)))
             self.assertEqual(list(store.rows("t")), [(key, f"row {key}") for key in range(1000)])
 
     def test_many_rows(self):
-        with store_with_table(self.folder / "many.db") as store, store.session("t") as session:
+        with store_with_table(self.new()) as store, store.session("t") as session:
             for key in range(3000):
                 store.insert("t", key, "x")
             store.insert_many("t", [(key, "x") for key in range(3000, 20_000)])
@@ -1399,7 +1403,7 @@ class Loads(Folder):
 
     def test_long_values(self):
         long = b"\x07" * 9_000_000
-        with store_with_table() as store:
+        with store_with_table(self.new()) as store:
             store.insert("t", 1, long)
             store.update("t", {"b": long[1:]}, where={"a": 1})
             store.insert("t", long, "x" * 9_000_000)
@@ -1410,7 +1414,7 @@ class Loads(Folder):
     def test_longest_call(self):
         """A longer one is refused by the program, and the store goes on."""
         most = 67108864 - len(b"\x07\x01t\x02") - 9 - len(b"\x04\xa0\x80\x80\x00")
-        with store_with_table() as store:
+        with store_with_table(self.new()) as store:
             self.assertEqual(len(_calls.row_call(_calls.INSERT, "t", (2, bytes(most)))), 67108864 + 4)
             for call in (
                 lambda: store.insert("t", 2, bytes(most + 1)), lambda: store.apply(bytes(most + 99)),
@@ -1429,6 +1433,17 @@ class Memory(unittest.TestCase):
         self.store = vollikash.from_bytes()
         self.addCleanup(self.store.close)
         self.store.create("t", ["a", "b"], key=["a"])
+
+    def test_open(self):
+        """The path of a store in memory makes a new one, and no program runs."""
+        with unittest.mock.patch.dict(os.environ, VOLLIKASH_CALLS="/nowhere"):
+            for path in (":memory:", b":memory:", pathlib.Path(":memory:")):
+                for given in ({}, {"timeout": None}, {"timeout": 1e-9, "busy_timeout": 0}):
+                    with self.subTest(path=path, **given), vollikash.open(path, **given) as store:
+                        self.assertEqual((repr(store), store.tables()), ("<vollikash.Store ':memory:', open>", []))
+                        store.create("u", ["a"], key=["a"])
+                        with vollikash.from_bytes(store.to_bytes()) as saved:
+                            self.assertEqual(saved.tables(), ["u"])
 
     def test_memory_that_runs_out(self):
         """A file in memory is full if memory runs out."""
@@ -1647,13 +1662,56 @@ class Memory(unittest.TestCase):
 class Installed(Folder):
     """The package where a part is missing."""
 
+    def run_copy(self, text, **variables):
+        """What a Python program prints that has the package and the library, and no program."""
+        package = self.folder / "site/vollikash"
+        shutil.copytree(HERE / "vollikash", package, ignore=shutil.ignore_patterns("__pycache__"))
+        shutil.copy(os.environ.get("VOLLIKASH_LIBRARY") or _files._find(), package / "libvollikash.so")
+        environment = {name: value for name, value in os.environ.items() if not name.startswith("VOLLIKASH_")}
+        environment.update(PATH=str(self.folder), PYTHONPATH=str(package.parent), **variables)
+        command = [sys.executable, "-c", textwrap.dedent(text)]
+        return subprocess.run(
+            command, cwd=self.folder, env=environment, stdout=subprocess.PIPE, text=True, check=True, timeout=120
+        ).stdout
+
+    def test_no_program(self):
+        """A store in memory has all its calls. One in a file is an error, and no file is made."""
+        printed = self.run_copy("""
+            import contextlib, vollikash
+            with vollikash.open(":memory:") as store:
+                store.create("t", ["a", "b"], key=["a"])
+                with store.transaction():
+                    store.insert_many("t", [(1, "x"), (2, "y")])
+                with contextlib.suppress(KeyError), store.transaction():
+                    store.delete("t", where={"a": 1})
+                    raise KeyError
+                with store.session("t") as session:
+                    store.update("t", {"b": "z"}, where={"a": 2})
+                    file = session.changeset()
+                    print(vollikash.sql(file), session.undo().applied)
+                saved = store.to_bytes()
+            with vollikash.from_bytes(saved) as store:
+                print(list(store.rows("t")), store.apply(file).applied, store.get("t", 2))
+            try:
+                vollikash.open("file.db")
+            except vollikash.ProgramError as error:
+                print(error)
+        """)
+        self.assertEqual(printed, """\
+UPDATE "t" SET c2='z' WHERE c1=2 AND c2='y';
+ 1
+[(1, 'x'), (2, 'y')] 1 (2, 'z')
+there is no changeset-calls program: VOLLIKASH_CALLS can name one
+""")
+        self.assertEqual(os.listdir(self.folder), ["site"])
+
     def test_no_library(self):
         """A store in memory is an error that names the library, also if it is another one."""
         for name, why in (("nowhere.so", "No such file or directory"), ("libc.so.6", "undefined symbol")):
             with self.subTest(name):
                 printed = self.run_python("""
                     import vollikash
-                    store = vollikash.from_bytes
+                    store = lambda: vollikash.open(":memory:")
                     for call in (store, vollikash.from_bytes, lambda: vollikash.check(b"")):
                         try:
                             call()

@@ -1,16 +1,11 @@
 """The tests of stores over both of their transports: the program, and the library in this process."""
 import itertools
+import pathlib
 import sys
-import unittest.mock
+import tempfile
+import unittest
 
-import vollikash
-
-_open = vollikash.open
-
-
-def _opened(path, **given):
-    """Open a store, which is in this process if it is in memory."""
-    return vollikash.from_bytes() if path == ":memory:" else _open(path, **given)
+from vollikash import _memory, _process
 
 
 def interrupted(call, function, number):
@@ -37,11 +32,26 @@ def interrupted(call, function, number):
     return None
 
 
-class InProcess:
-    """Tests whose stores in memory are in this process."""
+class Folder(unittest.TestCase):
+    """A folder for each test. New stores are in files there, so a program answers their calls."""
+
+    transport = _process.Process
 
     def setUp(self):
-        super().setUp()
-        patch = unittest.mock.patch.object(vollikash, "open", _opened)
-        patch.start()
-        self.addCleanup(patch.stop)
+        folder = tempfile.TemporaryDirectory()
+        self.addCleanup(folder.cleanup)
+        self.folder = pathlib.Path(folder.name)
+        self.numbers = itertools.count()
+
+    def new(self):
+        """The path of a new store."""
+        return self.folder / f"new{next(self.numbers)}.db"
+
+
+class InProcess:
+    """Tests whose new stores are in memory, so the library answers their calls in this process."""
+
+    transport = _memory.Memory
+
+    def new(self):
+        return ":memory:"

@@ -8,8 +8,8 @@ with sessions and undo.
 >>> vollikash.sql(builder.to_bytes())
 'INSERT INTO "t" VALUES(1, \\'x\\');\\n'
 
-The calls on files use libvollikash.so. `open` opens a store, by a `changeset-calls` program that
-runs next to this one.
+The calls on files and on stores in memory use libvollikash.so, in this process. A store in a file
+is opened by a `changeset-calls` program that runs next to this one.
 """
 from ._builder import Builder
 from ._changes import Change, changes

@@ -374,10 +374,10 @@ def refused(
 
 
 class ProgramError(Error, OSError):
-    """The program is missing, has ended, has not answered in time, or has answered something
-    malformed. The store is closed then.
+    """The store is closed; or its program is missing, has ended, has not answered in time, or has
+    answered something malformed: then the store is closed.
 
-    `said` is what it printed last on standard error.
+    `said` is what the program printed last on standard error.
     """
 
     def __init__(self, why: str, said: str = "") -> None:

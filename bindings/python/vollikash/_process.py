@@ -343,6 +343,10 @@ class Process:
         why = self._text().strip() or f"exit status {status}"
         return ProgramError(f"the program has ended: {why}", self._text())
 
+    def to_bytes(self) -> bytes:
+        """Raise ValueError, since the store has its file."""
+        raise ValueError("the store is in a file, and not in memory")
+
     def occupy(self, is_occupied: bool) -> None:
         """Let nobody make a call, or let calls be made again."""
         self._is_free = self._is_open and not is_occupied

@@ -1,4 +1,4 @@
-"""Stores, by a program that answers calls."""
+"""Stores, by a program that answers calls, or by the library in this process."""
 import contextlib
 import itertools
 import os
@@ -177,8 +177,8 @@ class Store:
     thread waits for its end, and another task of the thread gets RuntimeError.
 
     A refused call raises `StoreError`, or `ChangesetError` for a file that is no changeset, and
-    changes nothing. Each can also raise MemoryError if the program runs out of memory, and
-    `ProgramError` if it is missing, has ended or does not answer in time. Then the store is closed.
+    changes nothing. Each can also raise MemoryError if memory runs out. A store in a file raises
+    `ProgramError` if its program has ended or does not answer in time. Then the store is closed.
     What no call can have, such as a float, raises ValueError before anything is sent.
 
     Ctrl-C within a call raises `Interrupted` after its answer, and the store remains open.
@@ -224,8 +224,9 @@ class Store:
             warnings.warn(f"{self!r} was not closed", ResourceWarning, source=self)
 
     def close(self) -> None:
-        """End the program. What was done remains in the file, and an open transaction is rolled
-        back. The calls of a closed store raise `ProgramError`, but for this one.
+        """End the program, or free the memory. What was done remains in the file, and an open
+        transaction is rolled back. The calls of a closed store raise `ProgramError`, but for this
+        one.
         """
         with self._server.lock:
             if self._is_watched:
@@ -648,17 +649,14 @@ class Store:
                 raise self._unfinished(error) from error
 
     def to_bytes(self) -> bytes:
-        """Return the bytes of a database file with the tables of a store of `from_bytes`.
+        """Return the bytes of a database file with the tables of a store in memory.
 
-        That of another store raises ValueError, since it has its file. An open transaction raises
-        `TransactionOpen`. A session goes on.
+        A store in a file raises ValueError. An open transaction raises `TransactionOpen`. A session
+        goes on.
         """
-        server = self._server
-        if not isinstance(server, Memory):
-            raise ValueError("the store is not one of from_bytes")
-        with server.lock:
+        with self._server.lock:
             self._expect_allowed(False)
-            return server.to_bytes()
+            return self._server.to_bytes()
 
     def undo_stack(
         self,
@@ -697,7 +695,8 @@ def from_bytes(file: Bytes = b"") -> Store:
     program. No bytes make a new store.
 
     It is in memory, and `Store.to_bytes` returns what it has. A file of another kind raises
-    `StoreError`. A call can be of any length, and has no timeout.
+    `StoreError`, and a C library that is missing OSError. A call can be of any length, and has no
+    timeout.
     """
     return Store(Memory(as_bytes(file)), "from_bytes")
 
@@ -742,13 +741,16 @@ def _opened(word: bytes, timeout: Optional[float], busy_timeout: float) -> Proce
 def open(
     path: Path, *, timeout: Optional[float] = 60.0, busy_timeout: float = 5.0
 ) -> Store:
-    """Open the store in a file, or create it. For ":memory:" the store is in memory.
+    """Open the store in a file, or create it. For ":memory:" open a new store in memory, in this
+    process, as `from_bytes` does.
 
     `timeout` is the number of seconds that the program may be silent when it has to answer, or None
     for any number. While another program has the file, it is tried again for `busy_timeout`
-    seconds. Then that is `Busy`. Another file that cannot be opened raises another `StoreError`, a
-    path that is not UTF-8 or has a zero character ValueError, and a program that is missing
-    `ProgramError`.
+    seconds. Then that is `Busy`. Both have no effect on a store in memory, which needs no program.
+
+    Another file that cannot be opened raises another `StoreError`, a path that is not UTF-8 or has
+    a zero character ValueError, a program that is missing `ProgramError`, and for ":memory:" a C
+    library that is missing OSError.
     """
     if timeout is not None and not timeout > 0:
         raise ValueError(f"timeout is a number of seconds above 0, or None, and not {timeout!r}")
@@ -756,6 +758,8 @@ def open(
         raise ValueError(f"busy_timeout is a number of seconds, and not {busy_timeout!r}")
     word = path_word(path)
     name = os.fsdecode(path)
+    if word == _MEMORY:
+        return Store(Memory(b""), name)
     try:
         return Store(_opened(word, timeout, busy_timeout), name)
     except StoreFault as error:

@@ -144,7 +144,7 @@ def apply(arguments: argparse.Namespace) -> int:
     new = _made_by(path, arguments.create)
     try:
         with Progress(path, not arguments.interactive):
-            # A store takes its time: a second Ctrl-C ends it.
+            # A store takes its time: a second Ctrl-C ends its program.
             with open_store(path, timeout=None) as store:
                 report = _applied(store, given.data, arguments)
     except (ProgramError, StoreError, ValueError) as error:
