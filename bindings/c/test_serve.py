@@ -329,6 +329,11 @@ class Typed(unittest.TestCase):
             self.assertRegex(documents, rf"\b{number} (\| )?{title}\b")
             said = re.search(rf'{{VOLLIKASH_{name}, "(.*)"}}', source)
             self.assertLess(len(said[1]), 80)
+        classes = dict(re.findall(r"case VOLLIKASH_([A-Z_]+):\n        return (\d+);", header))
+        listed = dict(re.findall(r"^\| (\d+) \| \w+[^|]*\| (\d+) \|", documents, re.M))
+        self.assertEqual(len(classes), 4)
+        for name, number in numbers:
+            self.assertEqual(classes.get(name, "1"), listed.get(number, "1"), name)
 
 
 if __name__ == "__main__":

@@ -71,6 +71,26 @@ enum vollikash_store_code {
     VOLLIKASH_CONFLICTS_DIFFER = 99  /* `decide` has changed what it was asked about */
 };
 
+/*
+** SQLite's result code for such a number, as vollikash_class returns it for the others:
+** SQLITE_CONSTRAINT, SQLITE_SCHEMA, SQLITE_ABORT and SQLITE_MISUSE.
+*/
+static inline int vollikash_store_class(int code)
+{
+    switch (code) {
+    case VOLLIKASH_NOT_NULL:
+        return 19;
+    case VOLLIKASH_WIDER:
+        return 17;
+    case VOLLIKASH_ABORT:
+        return 4;
+    case VOLLIKASH_MISUSE:
+        return 21;
+    default:
+        return vollikash_class(code);
+    }
+}
+
 /* ---- Values and rows. */
 
 /* A value of a row. */

@@ -565,7 +565,8 @@ class Linked(unittest.TestCase):
     """The libraries have what the header and the module say, and are found."""
 
     def test_exports(self):
-        declared = re.findall(r"^(?:int|size_t|void) (vollikash_\w+)\(", HEADER.read_text(), re.M)
+        headers = HEADER.read_text() + HEADER.with_name("vollikash_store.h").read_text()
+        declared = re.findall(r"^(?:int|size_t|void) (vollikash_\w+)\(", headers, re.M)
         listed = run("nm", "-D", "--defined-only", BUILT / "libvollikash.so").splitlines()
         self.assertEqual(sorted(line.split()[-1] for line in listed), sorted(declared))
 
