@@ -24,22 +24,26 @@ void *__wrap_calloc(size_t count, size_t size);
 void *__wrap_realloc(void *memory, size_t size);
 void __wrap_free(void *memory);
 
-/* Which allocation is refused, counted from here on, or none for 0, how many were asked for, and how many blocks are not
-** yet freed. */
-static long refused = 0;
-static long allocations = 0;
-static long blocks = 0;
+/*
+** Which allocation is refused, counted from here on, or none for 0; whether those after it are refused too; how many
+** were asked for, and how many blocks are not yet freed. Compilers take it that malloc does not look at them.
+*/
+static volatile long refused = 0;
+static volatile int refuses_rest = 0;
+static volatile long allocations = 0;
+static volatile long blocks = 0;
 
-/* Counts an allocation, and returns whether it is the one that is refused. */
+/* Counts an allocation, and returns whether it is refused. */
 static int is_refused(void)
 {
-    return ++allocations == refused;
+    allocations++;
+    return refused > 0 && (allocations == refused || (refuses_rest && allocations > refused));
 }
 
 /* Counts a block. */
 static void *counted(void *memory)
 {
-    blocks += memory != NULL;
+    blocks = blocks + (memory != NULL);
     return memory;
 }
 
@@ -64,7 +68,7 @@ void *__wrap_realloc(void *memory, size_t size)
 
 void __wrap_free(void *memory)
 {
-    blocks -= memory != NULL;
+    blocks = blocks - (memory != NULL);
     __real_free(memory);
 }
 

@@ -301,10 +301,10 @@ class Typed(unittest.TestCase):
     """The typed calls of vollikash_store.h."""
 
     def test_calls(self):
-        """Next to what they answer, sanitizers look for undefined behaviour, and each allocation is refused in turn."""
-        for program in ("typed", "typed-sanitized", "typed-refusing"):
+        """Next to what they answer, sanitizers look for undefined behaviour, and memory is refused."""
+        for program, *words in (["typed"], ["typed-sanitized"], ["typed-refusing"], ["typed-short", "short"]):
             with self.subTest(program):
-                ran = subprocess.run([HERE / "out" / program], capture_output=True, text=True, check=False)
+                ran = subprocess.run([HERE / "out" / program, *words], capture_output=True, text=True, check=False)
                 self.assertEqual((ran.returncode, ran.stderr), (0, ""))
 
     def test_header_alone(self):

@@ -15,7 +15,8 @@
 #ifdef REFUSING
 #include "refusing.h"
 #else
-static long refused = 0, allocations = 0;
+static volatile long refused = 0, allocations = 0;
+static volatile int refuses_rest = 0;
 #endif
 
 static void require(int holds, const char *what, int line)
@@ -202,6 +203,9 @@ static void test_errors(struct vollikash_db *db)
     ERROR("u", NULL, 0, 0);
     EXPECT(VOLLIKASH_NO_TABLE, vollikash_schema(db, "u", &columns));
     EXPECT(VOLLIKASH_NO_ROW, vollikash_get(db, "t", KEY(INT(3)), &row));
+    ERROR("t", NULL, 3, 0);
+    EXPECT(VOLLIKASH_NO_ROW, vollikash_get(db, "t", KEY(TEXT("no such key")), &row));
+    SAME(vollikash_error(db)->key, ROW(TEXT("no such key")));
     REQUIRE(count == 9 && columns.count == 7 && row.count == 7);
     EXPECT(VOLLIKASH_KEY_TAKEN, vollikash_insert(db, "t", ROW(INT(2), TEXT("x"))));
     ERROR("t", NULL, 2, 0);
@@ -220,7 +224,7 @@ static void test_errors(struct vollikash_db *db)
     EXPECT(VOLLIKASH_RANGE, vollikash_create(db, "u", VOLLIKASH_COLUMNS({"k", -1})));
     EXPECT(VOLLIKASH_RANGE, vollikash_get(db, "t", KEY(vollikash_make_datum(2, 0, NULL, 0)), &row));
     EXPECT(VOLLIKASH_BAD_TEXT, vollikash_put(db, "t", ROW(INT(1), TEXT("\xff"))));
-    ERROR(NULL, NULL, 0, 15);
+    ERROR(NULL, NULL, 0, 0);
     EXPECT(VOLLIKASH_BAD_TEXT, vollikash_count(db, "\xff", &count));
     EXPECT(VOLLIKASH_OK, vollikash_count(db, "t", &count));
     REQUIRE(vollikash_error(db)->code == VOLLIKASH_OK && vollikash_error(db)->table == NULL);
@@ -280,6 +284,21 @@ static void test_wide_keys(struct vollikash_db *db)
         REQUIRE(row.values[0].integer == seen++);
     }
     REQUIRE(code == VOLLIKASH_DONE && seen == 600);
+    vollikash_cursor_close(&cursor);
+}
+
+/* A table that is replaced by one with another key is another table. */
+static void test_replaced_table(struct vollikash_db *db)
+{
+    struct vollikash_cursor cursor = {0};
+    struct vollikash_row row;
+    EXPECT_ONCE(VOLLIKASH_OK, vollikash_begin(db));
+    EXPECT_ONCE(VOLLIKASH_OK, vollikash_create(db, "r", VOLLIKASH_COLUMNS({"a", 1}, {"b", 0})));
+    EXPECT_ONCE(VOLLIKASH_OK, vollikash_cursor_open(db, "r", &cursor));
+    EXPECT_ONCE(VOLLIKASH_OK, vollikash_rollback(db));
+    EXPECT(VOLLIKASH_NO_TABLE, vollikash_cursor_next(db, &cursor, &row));
+    EXPECT(VOLLIKASH_OK, vollikash_create(db, "r", VOLLIKASH_COLUMNS({"a", 0}, {"b", 1})));
+    EXPECT(VOLLIKASH_NO_TABLE, vollikash_cursor_next(db, &cursor, &row));
     vollikash_cursor_close(&cursor);
 }
 
@@ -550,6 +569,34 @@ static void test_apply_in_a_transaction(struct vollikash_db *db)
     free(made);
 }
 
+/*
+** Memory runs out for good within an apply, and is there again for the next call. An apply that has failed leaves no
+** transaction open, and no report.
+*/
+static void test_short_of_memory(struct vollikash_db *db)
+{
+    struct decisions decisions = {db, {0, 1, 0, 1, 0}, {0}};
+    struct vollikash_report report = {0};
+    const uint8_t *file;
+    size_t length, size;
+    int code = VOLLIKASH_NO_MEMORY;
+    uint8_t *made = recorded(edit, &length);
+    for (long next = 1; code != VOLLIKASH_OK; next++) {
+        report.written = 77;
+        allocations = 0;
+        refuses_rest = 1;
+        refused = next;
+        code = vollikash_apply(db, made, length, 0, decide, &decisions, &report);
+        refused = 0;
+        refuses_rest = 0;
+        REQUIRE(code == VOLLIKASH_OK || report.written == 77);
+        REQUIRE(vollikash_save(db, &file, &size) == VOLLIKASH_OK);
+        HAS(1, code == VOLLIKASH_OK ? "uno" : "one");
+        EXPECT_ONCE(VOLLIKASH_NO_TRANSACTION, vollikash_commit(db));
+    }
+    free(made);
+}
+
 /* Tables that the store does not have are skipped, and one that it has wider is refused. */
 static void test_skipped_and_wider(struct vollikash_db *db)
 {
@@ -586,18 +633,23 @@ static void test_values_of_changes(struct vollikash_db *db)
     free(made);
 }
 
-int main(void)
+/* Runs all tests; with a word only that in which memory runs out for good. */
+int main(int count, char **words)
 {
+    (void)words;
     static void (*const tests[])(struct vollikash_db *) = {
         test_opening, test_tables, test_rows, test_values, test_errors, test_cursor, test_wide_keys, test_transactions, test_saves,
         test_closed, test_sessions, test_there_and_back, test_decisions, test_apply_in_a_transaction,
+        test_replaced_table, test_short_of_memory,
         test_skipped_and_wider, test_values_of_changes,
     };
     for (size_t at = 0; at < sizeof tests / sizeof tests[0]; at++) {
         struct vollikash_db db = {0};
-        open_rows(&db);
-        tests[at](&db);
-        vollikash_close(&db);
+        if (count == 1 || tests[at] == test_short_of_memory) {
+            open_rows(&db);
+            tests[at](&db);
+            vollikash_close(&db);
+        }
     }
 #ifdef REFUSING
     REQUIRE(blocks == 0);

@@ -24,9 +24,6 @@ enum { ANSWER_ROOM = 512 };
 /* How many rows a cursor reads at once. */
 enum { PAGE_ROWS = 512 };
 
-/* How often a roll back is tried if memory runs out. */
-enum { TRIES = 100 };
-
 /* Bytes that grow. */
 struct buffer {
     uint8_t *bytes;
@@ -51,6 +48,7 @@ struct memory {
 struct inside {
     struct buffer call;
     struct memory memory;
+    int owes_roll_back; /* an apply has failed in a transaction of its own, which may still be open */
 };
 
 /* ---- Memory. */
@@ -73,6 +71,13 @@ static int has_room(struct buffer *buffer, size_t more)
     buffer->bytes = bytes;
     buffer->room = room;
     return 1;
+}
+
+/* Makes a block of zero bytes. Returns NULL if memory runs out. */
+static void *zeroed(size_t size)
+{
+    void *made = malloc(size);
+    return made == NULL ? NULL : memset(made, 0, size);
 }
 
 /* Makes a block, which is freed with the memory. Returns NULL if memory runs out. */
@@ -299,14 +304,14 @@ static struct writer start_in(struct buffer *to, int number)
     return call;
 }
 
+static int settle(struct vollikash_db *db);
+
 /* Begins a call of a store, which is not open if it has nothing. */
 static struct writer start(struct vollikash_db *db, int number)
 {
     struct inside *inside = db->at;
-    if (inside == NULL) {
-        return (struct writer){NULL, VOLLIKASH_NOT_OPEN};
-    }
-    return start_in(&inside->call, number);
+    int code = settle(db);
+    return code != VOLLIKASH_OK ? (struct writer){NULL, code} : start_in(&inside->call, number);
 }
 
 static struct writer start_on(struct vollikash_db *db, int number, const char *table)
@@ -515,7 +520,7 @@ static int end_refused(struct vollikash_db *db, struct reader *answer, int numbe
         error.detail = read_byte(answer) ? read_number(answer) : 0;
     } else if (number == UNREAD) {
         code = (int)read_number(answer);
-        error.detail = read_number(answer);
+        read_number(answer); /* the offset in the call, which nobody has seen */
     }
     if (finish(db, answer) == VOLLIKASH_OK) {
         end(db, code);
@@ -580,14 +585,11 @@ static int carry_out(struct vollikash_db *db, struct writer *call)
 }
 
 /* Makes a call without parts that is done, or refused, without memory for it. What earlier calls returned stays. */
-static int command(struct vollikash_db *db, int number)
+static int send(struct vollikash_db *db, int number)
 {
     uint8_t call = (uint8_t)number, bytes[ANSWER_ROOM];
     struct buffer buffer = {bytes, 0, sizeof bytes};
     struct reader answer;
-    if (db->at == NULL) {
-        return end(db, VOLLIKASH_NOT_OPEN);
-    }
     int code = vollikash_store_call(&db->store, &call, 1, &buffer.length);
     if (code == VOLLIKASH_OK) {
         code = vollikash_store_answer(&db->store, bytes, sizeof bytes - 1, &buffer.length);
@@ -603,15 +605,37 @@ static int command(struct vollikash_db *db, int number)
     return db->error.code;
 }
 
+/* Rolls back what an apply has left open. Returns NO_MEMORY while that fails, and NOT_OPEN without a store. */
+static int settle(struct vollikash_db *db)
+{
+    struct inside *inside = db->at;
+    if (inside == NULL) {
+        return VOLLIKASH_NOT_OPEN;
+    }
+    if (inside->owes_roll_back) {
+        int code = send(db, ROLL_BACK);
+        inside->owes_roll_back = code != VOLLIKASH_OK && code != VOLLIKASH_NO_TRANSACTION;
+    }
+    return inside->owes_roll_back ? VOLLIKASH_NO_MEMORY : VOLLIKASH_OK;
+}
+
+static int command(struct vollikash_db *db, int number)
+{
+    int code = settle(db);
+    return code != VOLLIKASH_OK ? end(db, code) : send(db, number);
+}
+
 /* ---- A store. */
 
 int vollikash_open(struct vollikash_db *db, const uint8_t *file, size_t length)
 {
     struct vollikash_fault fault;
+    const uint8_t *bytes = length == 0 ? (const uint8_t *)"" : file;
     int is_new = db->at == NULL;
-    struct inside *inside = is_new ? calloc(1, sizeof *inside) : db->at;
-    int code = inside == NULL ? VOLLIKASH_NO_MEMORY : vollikash_store_open(&db->store, file, length, &fault);
+    struct inside *inside = is_new ? zeroed(sizeof *inside) : db->at;
+    int code = inside == NULL ? VOLLIKASH_NO_MEMORY : vollikash_store_open(&db->store, bytes, length, &fault);
     if (code == VOLLIKASH_OK) {
+        inside->owes_roll_back = 0;
         db->at = inside;
     } else if (is_new) {
         free(inside);
@@ -622,13 +646,14 @@ int vollikash_open(struct vollikash_db *db, const uint8_t *file, size_t length)
 int vollikash_save(struct vollikash_db *db, const uint8_t **file, size_t *length)
 {
     struct inside *inside = db->at;
-    if (inside == NULL) {
-        return end(db, VOLLIKASH_NOT_OPEN);
+    int code = settle(db);
+    if (code != VOLLIKASH_OK) {
+        return end(db, code);
     }
     struct buffer *made = &inside->memory.answer;
     forget(&inside->memory);
     size_t needed = 0;
-    int code = vollikash_store_save(&db->store, (uint8_t *)"", 0, &needed);
+    code = vollikash_store_save(&db->store, (uint8_t *)"", 0, &needed);
     if (code == VOLLIKASH_NO_ROOM) {
         code = has_room(made, needed) ? vollikash_store_save(&db->store, made->bytes, needed, &made->length)
                                       : VOLLIKASH_NO_MEMORY;
@@ -708,15 +733,34 @@ int vollikash_count(struct vollikash_db *db, const char *table, uint64_t *count)
     return db->error.code;
 }
 
+/* Ends a call whose bytes have a table and a key with NO_ROW, and names them. */
+static int end_without_row(struct vollikash_db *db)
+{
+    struct inside *inside = db->at;
+    struct buffer *call = &inside->call;
+    struct reader parts = {call->bytes + 1, call->bytes + call->length, NULL, &inside->memory, VOLLIKASH_OK};
+    const char *table = read_text(&parts);
+    struct vollikash_row key = read_row(&parts);
+    if (finish(db, &parts) == VOLLIKASH_OK) {
+        end(db, VOLLIKASH_NO_ROW);
+        db->error.table = table;
+        db->error.key = key;
+    }
+    return db->error.code;
+}
+
 int vollikash_get(struct vollikash_db *db, const char *table, struct vollikash_row key, struct vollikash_row *row)
 {
     struct writer call = start_on(db, GET, table);
     struct reader answer;
     put_row(&call, key);
+    if (call.code == VOLLIKASH_OK && !has_room(call.to, 1)) { /* for a zero byte after its last part */
+        refuse(&call, VOLLIKASH_NO_MEMORY);
+    }
     if (ask(db, &call, ROW_OR_NONE, &answer) == VOLLIKASH_OK) {
         struct vollikash_row read = read_optional_row(&answer);
         if (finish(db, &answer) == VOLLIKASH_OK && read.count == 0) {
-            return end(db, VOLLIKASH_NO_ROW);
+            return end_without_row(db);
         }
         if (db->error.code == VOLLIKASH_OK) {
             *row = read;
@@ -760,7 +804,8 @@ int vollikash_delete(struct vollikash_db *db, const char *table, struct vollikas
 struct place {
     char *table;
     size_t *key; /* the columns of the key, */
-    size_t keys; /* and their number */
+    size_t keys; /* their number, */
+    size_t width; /* and that of all columns */
     struct memory memory;
     struct vollikash_row *rows; /* the rows that were read last, */
     size_t count, next;         /* their number, and the next one to return */
@@ -780,7 +825,7 @@ static void free_place(struct place *place)
 /* Makes the place before the first row of a table. Returns NULL if memory runs out. */
 static struct place *new_place(const char *table)
 {
-    struct place *place = calloc(1, sizeof *place);
+    struct place *place = zeroed(sizeof *place);
     if (place != NULL) {
         place->has_more = 1;
         place->table = malloc(strlen(table) + 1);
@@ -796,13 +841,35 @@ static struct place *new_place(const char *table)
 /* Notes which columns are of the key. Returns 0 if memory runs out. */
 static int has_key(struct place *place, struct vollikash_columns columns)
 {
-    place->key = calloc(columns.count, sizeof *place->key);
+    place->key = zeroed(columns.count * sizeof *place->key);
+    place->width = columns.count;
     for (size_t at = 0; at < columns.count && place->key != NULL; at++) {
         if (columns.columns[at].marks & VOLLIKASH_COLUMN_KEY) {
             place->key[place->keys++] = at;
         }
     }
     return place->key != NULL;
+}
+
+/* Whether these are the columns that were noted. */
+static int has_columns(const struct place *place, struct vollikash_columns columns)
+{
+    size_t keys = 0;
+    int is_same = columns.count == place->width;
+    for (size_t at = 0; at < columns.count && is_same; at++) {
+        if (columns.columns[at].marks & VOLLIKASH_COLUMN_KEY) {
+            is_same = keys < place->keys && place->key[keys++] == at;
+        }
+    }
+    return is_same && keys == place->keys;
+}
+
+/* Requires that the table is not another one by now, in which a key would have another place. */
+static int expect_table(struct vollikash_db *db, const struct place *place)
+{
+    struct vollikash_columns columns;
+    int code = vollikash_schema(db, place->table, &columns);
+    return code == VOLLIKASH_OK && !has_columns(place, columns) ? end(db, VOLLIKASH_NO_TABLE) : code;
 }
 
 int vollikash_cursor_open(struct vollikash_db *db, const char *table, struct vollikash_cursor *cursor)
@@ -842,6 +909,9 @@ static void put_last_key(struct writer *call, const struct place *place)
 /* Reads the next rows. */
 static int turn_page(struct vollikash_db *db, struct place *place)
 {
+    if (expect_table(db, place) != VOLLIKASH_OK) {
+        return db->error.code;
+    }
     struct writer call = start_on(db, ROWS, place->table);
     struct reader answer;
     put_last_key(&call, place);
@@ -904,11 +974,14 @@ int vollikash_rollback(struct vollikash_db *db)
     return command(db, ROLL_BACK);
 }
 
-/* Rolls back the transaction in which a call has failed, and whose error stays. */
+/* Rolls back the transaction in which a call has failed, now or before the next call. The error stays. */
 static int abandon(struct vollikash_db *db)
 {
     struct vollikash_refusal error = db->error;
-    for (int left = TRIES; left > 0 && command(db, ROLL_BACK) == VOLLIKASH_NO_MEMORY; left--) {
+    struct inside *inside = db->at;
+    if (inside != NULL) {
+        inside->owes_roll_back = 1;
+        settle(db);
     }
     db->error = error;
     return error.code;
@@ -1001,12 +1074,17 @@ int vollikash_apply(struct vollikash_db *db, const uint8_t *file, size_t length,
     struct writer call = start_in(&bytes, REHEARSE);
     put_file(&call, file, length);
     put_byte(&call, ignore_noop != 0);
+    struct vollikash_report made;
     int code = call.code != VOLLIKASH_OK ? end(db, call.code) : command(db, BEGIN);
     if (code == VOLLIKASH_OK) {
-        code = apply_rehearsed(db, &call, decide, context, report);
-        code = code == VOLLIKASH_OK ? command(db, COMMIT) : abandon(db);
+        code = apply_rehearsed(db, &call, decide, context, &made);
+        code = code == VOLLIKASH_OK ? command(db, COMMIT) : code;
+        code = code == VOLLIKASH_OK ? code : abandon(db);
     } else if (code == VOLLIKASH_TRANSACTION_OPEN) {
-        code = apply_rehearsed(db, &call, decide, context, report);
+        code = apply_rehearsed(db, &call, decide, context, &made);
+    }
+    if (code == VOLLIKASH_OK) {
+        *report = made;
     }
     free(bytes.bytes);
     return code;

@@ -20,21 +20,25 @@
 **     time uses a `db` or a cursor. Before a `db` or a cursor is gone, it is closed.
 **   * Names of tables and columns are strings, so a name with a zero byte cannot be used.
 **     No pointer is NULL, but for `decide`, its `context`, and pointers to no values,
-**     no columns and no bytes.
+**     no columns and no bytes. What a call fills in may be uninitialized.
 **   * What a call takes is copied. It may be what an earlier call has returned, as long as
 **     that is valid.
 **   * What a call returns by pointers is the store's. It is valid until the next call on
-**     the `db`, and what a cursor returns until the next call on the cursor. A text and a
-**     blob are followed by a zero byte, and a text may have others within. Nothing of it is
-**     written to.
+**     the `db`, so a row that is got cannot be used after the row is updated. What a cursor
+**     returns is valid until the next call on the cursor. A text and a blob are followed by
+**     a zero byte, and a text may have others within. Nothing of it is written to.
 **
 ** Calls return VOLLIKASH_OK or the number of an error; vollikash_error has the rest of it.
-** A call that fails changes nothing, and what it would return by pointers is unchanged.
-** Each call can return NOT_OPEN; NO_MEMORY; STORE_FAULT, with the detail 13 if memory ran
-** out as the store grew; FRAME_TOO_LONG for a name, a value or a file of more than
-** 2147483647 bytes; BAD_TEXT for a name or a text that is not UTF-8; and in a transaction
+** A call that fails changes nothing, and what it would fill in is unchanged. Each call can
+** return NOT_OPEN; NO_MEMORY; STORE_FAULT, with the detail 13 if memory ran out as the
+** store grew; FRAME_TOO_LONG for a name, a value or a changeset of more than 2147483647
+** bytes; BAD_TEXT for a name or a text that is not UTF-8; and in a transaction
 ** TRANSACTION_ENDED. NO_MEMORY, STORE_FAULT and DAMAGED_STORE can end a transaction, so
-** call vollikash_rollback after them if one is open.
+** call vollikash_rollback after them if you have begun one. It has an error of its own:
+** copy what you need of the first one before.
+**
+** A `db` keeps its largest call, its last answer and what was read of it, next to what a
+** store keeps.
 */
 #ifndef VOLLIKASH_STORE_H
 #define VOLLIKASH_STORE_H
@@ -111,7 +115,10 @@ static inline struct vollikash_datum vollikash_make_datum(int kind, int64_t inte
     return value;
 }
 
-/* Values: an integer, a string, a blob of some bytes, and NULL. */
+/*
+** Values: an integer, a string, a blob of some bytes, and NULL. A text with zero bytes is
+** vollikash_make_datum(VOLLIKASH_TEXT, 0, bytes, length).
+*/
 #define VOLLIKASH_INT(number) vollikash_make_datum(VOLLIKASH_INTEGER, (number), NULL, 0)
 #define VOLLIKASH_TEXT(string) vollikash_text(string)
 #define VOLLIKASH_BLOB(data, size) vollikash_make_datum(VOLLIKASH_BLOB, 0, (data), (size))
@@ -149,14 +156,15 @@ struct vollikash_row {
 
 /*
 ** Why a call failed. What an error does not have is NULL, 0 or without values. docs/CALLS.md, "What is
-** refused", lists what each has.
+** refused", lists what each has. vollikash_open and vollikash_save have the code only.
 */
 struct vollikash_refusal {
     int code;                 /* what the last call returned */
     const char *table;        /* the table, */
     const char *column;       /* the column, */
     struct vollikash_row key; /* and the key of the row that the error is about */
-    uint64_t detail;          /* a number, such as the byte offset in a damaged file, or the kind of a conflict */
+    uint64_t detail;          /* of 1 to 18 the byte offset in a changeset, of ABORT and MISUSE the kind of the
+                              ** conflict, of WIDER the index of the table, of STORE_FAULT SQLite's number for why */
     char message[VOLLIKASH_MESSAGE_ROOM]; /* a sentence for people */
 };
 
@@ -171,7 +179,7 @@ struct vollikash_db {
 ** errors: DAMAGED_STORE, STORE_FAULT. After an error what was open stays open; if nothing was,
 ** there is nothing to close.
 */
-int vollikash_open(struct vollikash_db *db, const uint8_t *file, size_t length) VOLLIKASH_NONNULL;
+int vollikash_open(struct vollikash_db *db, const uint8_t *file, size_t length);
 
 /* Makes the bytes of a database file, as vollikash_store_save does. Other errors: TRANSACTION_OPEN. */
 int vollikash_save(struct vollikash_db *db, const uint8_t **file, size_t *length) VOLLIKASH_NONNULL;
@@ -179,7 +187,10 @@ int vollikash_save(struct vollikash_db *db, const uint8_t **file, size_t *length
 /* Frees what a store has. After that it is {0}. An open transaction is rolled back. */
 void vollikash_close(struct vollikash_db *db) VOLLIKASH_NONNULL;
 
-/* Returns why the last call on a store failed; its code is OK if it did not. It is valid until the next one. */
+/*
+** Returns why the last call on a store failed; its code is OK if it did not, and DONE if there was
+** no row left. It is valid until the next one.
+*/
 static inline const struct vollikash_refusal *vollikash_error(const struct vollikash_db *db)
 {
     return &db->error;
@@ -212,7 +223,7 @@ struct vollikash_columns {
 /* Lists the names of the tables, in the order of their bytes. */
 int vollikash_tables(struct vollikash_db *db, struct vollikash_names *tables) VOLLIKASH_NONNULL;
 
-/* Returns the columns of a table. Other errors: NO_TABLE. */
+/* Returns the columns of a table. Those of the key have both marks. Other errors: NO_TABLE. */
 int vollikash_schema(struct vollikash_db *db, const char *table, struct vollikash_columns *columns) VOLLIKASH_NONNULL;
 
 /* Creates a table. Other errors: TABLE_EXISTS, BAD_SCHEMA, and RANGE for other marks. */
@@ -253,8 +264,9 @@ int vollikash_delete(struct vollikash_db *db, const char *table, struct vollikas
 **     }
 **     vollikash_cursor_close(&cursor);
 **
-** It reads some rows at once, and takes memory for them. Other calls can be made between; of what
-** they change it returns the rows as they were or as they are.
+** It reads 512 rows at once, and takes memory for them. Other calls can be made between; of what
+** they change it returns the rows as they were or as they are. After vollikash_close and
+** vollikash_open the rows that it has read still come.
 */
 struct vollikash_cursor {
     void *at; /* what only the calls below use */
@@ -266,8 +278,8 @@ int vollikash_cursor_open(struct vollikash_db *db, const char *table,
 
 /*
 ** Goes to the next row. Returns DONE after the last one, and for a cursor that is not open; that is no
-** error. Other errors: NO_TABLE, and others if the table was replaced by another one. `db` is the
-** store that the cursor was opened for.
+** error. Other errors: NO_TABLE, also if the table has other columns by now. `db` is the store that
+** the cursor was opened for.
 */
 int vollikash_cursor_next(struct vollikash_db *db, struct vollikash_cursor *cursor,
                           struct vollikash_row *row) VOLLIKASH_NONNULL;
@@ -312,31 +324,33 @@ struct vollikash_conflict {
 struct vollikash_report {
     uint64_t written;                           /* the changes that were carried out */
     uint64_t ignored;                           /* the no-ops that were ignored */
-    struct vollikash_names skipped;             /* the tables that the store does not have */
+    struct vollikash_names skipped;             /* the tables that the store does not have, or with fewer
+                                                ** columns or another key */
     const struct vollikash_conflict *conflicts; /* the conflicts, in the order of the file */
     size_t count;                               /* and their number */
 };
 
 /*
 ** Decides a conflict: it returns one of the choices. `conflict` is valid until it returns. It may read
-** the store, but makes no other call on it. It returns, and does not jump.
+** the store, which shows what it did before the apply, but makes no other call on it. It returns: it
+** does not jump, and throws nothing.
 */
 typedef int vollikash_decide(void *context, const struct vollikash_conflict *conflict);
 
 /*
 ** Applies a changeset in the transaction that is open, or in one of its own. `decide` is called once for
-** each conflict that the file has with the store; without it, NULL, the first conflict aborts the
-** apply. A row that could not be replaced is a second conflict of its change, CONSTRAINT: `decide` is
-** asked about it whatever it chooses for the first. If `ignore_noop` is not 0, no-ops are not
+** each conflict that the file has with the store, before anything is written, and for all of them
+** whatever it chooses; without it, NULL, the first conflict aborts the apply. A row that could not be
+** replaced is a second conflict of its change, CONSTRAINT. If `ignore_noop` is not 0, no-ops are not
 ** conflicts, as with SQLITE_CHANGESETAPPLY_IGNORENOOP. Other errors: 1 to 18, WIDER, ABORT, MISUSE;
-** RANGE if `decide` returns another number; CONFLICTS_DIFFER.
+** RANGE if `decide` returns another number; CONFLICTS_DIFFER; TRANSACTION_ENDED if memory runs out
+** in a call of `decide`.
 */
 int vollikash_apply(struct vollikash_db *db, const uint8_t *file, size_t length, int ignore_noop,
                     vollikash_decide *decide, void *context, struct vollikash_report *report);
 
 /* Applies the inverse of a changeset. The first conflict aborts it. Other errors: 1 to 18, WIDER, ABORT. */
-int vollikash_revert(struct vollikash_db *db, const uint8_t *file, size_t length,
-                     struct vollikash_report *report) VOLLIKASH_NONNULL;
+int vollikash_revert(struct vollikash_db *db, const uint8_t *file, size_t length, struct vollikash_report *report);
 
 /*
 ** ---- A session. It notes the rows that calls write to its tables, until it is closed. While a
@@ -349,7 +363,10 @@ int vollikash_session_open(struct vollikash_db *db) VOLLIKASH_NONNULL;
 /* Attaches a table to the session. Other errors: NO_SESSION, ALREADY_ATTACHED, NO_TABLE. */
 int vollikash_session_attach(struct vollikash_db *db, const char *table) VOLLIKASH_NONNULL;
 
-/* Makes the changeset from the tables as they were attached to those of now. Other errors: NO_SESSION, WRONG_STORE. */
+/*
+** Makes the changeset from the tables as they were attached to those of now. Before SQLite applies it, number its
+** keys by vollikash_number_keys. Other errors: NO_SESSION, WRONG_STORE.
+*/
 int vollikash_session_changeset(struct vollikash_db *db, const uint8_t **file, size_t *length) VOLLIKASH_NONNULL;
 
 /* Returns 1 if no row of the attached tables was written, else 0. Other errors: NO_SESSION. */

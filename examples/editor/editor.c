@@ -24,6 +24,8 @@
     "a TEXT: append, i N TEXT: insert before line N, c N TEXT: change, d N: delete, p: print the lines\n" \
     "u: undo, r: redo, w: write the file, q: quit, Q: quit without writing\n"
 
+#define COLUMNS VOLLIKASH_COLUMNS({"at", VOLLIKASH_COLUMN_KEY}, {"text", VOLLIKASH_COLUMN_NOT_NULL})
+
 struct change { /* the changeset of a command */
     uint8_t *file;
     size_t length;
@@ -41,9 +43,8 @@ struct editor {
 /* Prints why a call failed. Returns whether it did not. */
 static int succeeds(struct editor *editor, int code)
 {
-    if (code != VOLLIKASH_OK) {
+    if (code != VOLLIKASH_OK)
         printf("? %s\n", vollikash_error(&editor->db)->message);
-    }
     return code == VOLLIKASH_OK;
 }
 
@@ -84,9 +85,8 @@ static int edit_lines(struct vollikash_db *db, struct edit edit)
         code = vollikash_delete(db, "lines", key);
         return code != VOLLIKASH_OK ? code : move_lines(db, edit.number + 1, last, -1);
     }
-    if (code == VOLLIKASH_OK && edit.command == 'i') {
+    if (code == VOLLIKASH_OK && edit.command == 'i')
         code = move_lines(db, last, edit.number, 1);
-    }
     return code != VOLLIKASH_OK ? code : vollikash_put(db, "lines", row);
 }
 
@@ -95,9 +95,8 @@ static int edit_lines(struct vollikash_db *db, struct edit edit)
 static void forget_undone(struct editor *editor)
 {
     editor->is_lost |= editor->written > editor->done;
-    while (editor->count > editor->done) {
+    while (editor->count > editor->done)
         free(editor->changes[--editor->count].file);
-    }
 }
 
 /* Notes what the session has recorded as the last change. Returns whether there was memory for it. */
@@ -105,9 +104,8 @@ static int note_change(struct editor *editor)
 {
     const uint8_t *file;
     size_t length;
-    if (vollikash_session_changeset(&editor->db, &file, &length) != VOLLIKASH_OK || length == 0) {
+    if (vollikash_session_changeset(&editor->db, &file, &length) != VOLLIKASH_OK || length == 0)
         return vollikash_error(&editor->db)->code == VOLLIKASH_OK;
-    }
     struct change *changes = realloc(editor->changes, (editor->count + 1) * sizeof *changes);
     uint8_t *copy = malloc(length + 1);
     editor->changes = changes != NULL ? changes : editor->changes;
@@ -127,14 +125,12 @@ static void carry_out(struct editor *editor, struct edit edit)
 {
     struct vollikash_db *db = &editor->db;
     struct vollikash_report report;
-    if (!succeeds(editor, vollikash_session_open(db))) {
+    if (!succeeds(editor, vollikash_session_open(db)))
         return;
-    }
     if (succeeds(editor, vollikash_session_attach(db, "lines")) && succeeds(editor, vollikash_begin(db))) {
         int code = edit_lines(db, edit);
-        if (code == VOLLIKASH_OK) {
+        if (code == VOLLIKASH_OK)
             code = vollikash_commit(db);
-        }
         if (!succeeds(editor, code)) {
             vollikash_rollback(db);
         } else if (!note_change(editor)) {
@@ -155,12 +151,21 @@ static void step(struct editor *editor, int is_undo)
     }
     struct change change = editor->changes[is_undo ? editor->done - 1 : editor->done];
     if (succeeds(editor, is_undo ? vollikash_revert(&editor->db, change.file, change.length, &report)
-                                 : vollikash_apply(&editor->db, change.file, change.length, 0, NULL, NULL, &report))) {
+                                 : vollikash_apply(&editor->db, change.file, change.length, 0, NULL, NULL, &report)))
         editor->done = is_undo ? editor->done - 1 : editor->done + 1;
-    }
 }
 
 /* ---- The file. */
+
+/* Whether a log is next to the file: what a program has written last is not in the file's bytes. */
+static int has_log(const char *path)
+{
+    char wal[4096], journal[4096];
+    struct stat status;
+    int length = snprintf(wal, sizeof wal, "%s-wal", path);
+    snprintf(journal, sizeof journal, "%s-journal", path);
+    return length > 4000 || (stat(wal, &status) == 0 && status.st_size > 100) || access(journal, F_OK) == 0;
+}
 
 /* Writes bytes to a new file, and to the disk. Returns whether that was done. */
 static int write_all(const char *path, const uint8_t *bytes, size_t length)
@@ -195,7 +200,9 @@ static void save(struct editor *editor)
         return;
     }
     strcat(strcpy(path, editor->path), ".new");
-    if (write_all(path, file, length) && rename(path, editor->path) == 0 && sync_folder(editor->path)) {
+    if (has_log(editor->path)) {
+        printf("? another program has %s\n", editor->path);
+    } else if (write_all(path, file, length) && rename(path, editor->path) == 0 && sync_folder(editor->path)) {
         editor->written = editor->done;
         editor->is_lost = 0;
         printf("%zu bytes\n", length);
@@ -205,37 +212,32 @@ static void save(struct editor *editor)
     free(path);
 }
 
-/* Whether a log with pages is next to the file: what a program has written last is not in the file's bytes. */
-static int has_log(const char *path)
-{
-    char log[4096];
-    struct stat status;
-    int length = snprintf(log, sizeof log, "%s-wal", path);
-    return length >= (int)sizeof log || (stat(log, &status) == 0 && status.st_size > 100);
-}
 
 /* Opens the store in the file, or a new one if there is none. Returns whether it is open. */
 static int open_file(struct editor *editor)
 {
     struct stat status = {0};
     int file = open(editor->path, O_RDONLY);
+    int is_missing = file < 0 && errno == ENOENT;
     size_t size = file >= 0 && fstat(file, &status) == 0 ? (size_t)status.st_size : 0, length = 0;
     uint8_t *bytes = malloc(size + 1);
     ssize_t moved = 1;
-    while (bytes != NULL && length < size && (moved = read(file, bytes + length, size - length)) > 0) {
+    while (bytes != NULL && length < size && (moved = read(file, bytes + length, size - length)) > 0)
         length += (size_t)moved;
-    }
-    if (bytes == NULL || length < size || (file < 0 && errno != ENOENT) || has_log(editor->path)) {
+    int is_read = bytes != NULL && length == size && (file >= 0 ? close(file) == 0 : is_missing);
+    if (!is_read || has_log(editor->path)) {
         printf("? %s cannot be read, or another program has it\n", editor->path);
+        free(bytes);
         return 0;
     }
     int code = vollikash_open(&editor->db, bytes, length);
     free(bytes);
-    if (code == VOLLIKASH_OK && length == 0) {
-        code = vollikash_create(&editor->db, "lines", VOLLIKASH_COLUMNS({"at", VOLLIKASH_COLUMN_KEY},
-                                                                       {"text", VOLLIKASH_COLUMN_NOT_NULL}));
-    }
-    return succeeds(editor, code) && (file < 0 || close(file) == 0);
+    if (code == VOLLIKASH_OK && length == 0)
+        code = vollikash_create(&editor->db, "lines", COLUMNS);
+    struct vollikash_columns columns;
+    if (!succeeds(editor, code) || !succeeds(editor, vollikash_schema(&editor->db, "lines", &columns)))
+        return 0;
+    return columns.count == 2 && columns.columns[0].marks == 3 && columns.columns[1].marks == 2;
 }
 
 /* ---- Commands. */
@@ -246,7 +248,8 @@ static void print_lines(struct editor *editor)
     struct vollikash_row row;
     int code = vollikash_cursor_open(&editor->db, "lines", &cursor);
     while (code == VOLLIKASH_OK && (code = vollikash_cursor_next(&editor->db, &cursor, &row)) == VOLLIKASH_OK) {
-        printf("%lld  %s\n", (long long)row.values[0].integer, (const char *)row.values[1].bytes);
+        const struct vollikash_datum *text = &row.values[1];
+        printf("%lld  %s\n", (long long)row.values[0].integer, text->bytes ? (const char *)text->bytes : "?");
     }
     succeeds(editor, code == VOLLIKASH_DONE ? VOLLIKASH_OK : code);
     vollikash_cursor_close(&cursor);
@@ -258,23 +261,21 @@ static int obey(struct editor *editor, char *line)
     int is_written = !editor->is_lost && editor->written == editor->done;
     struct edit edit = {line[0], 0, ""};
     char *text = line[0] == '\0' ? line : line + 1;
-    if (strchr("icd", line[0]) != NULL) {
+    if (strchr("icd", line[0]) != NULL)
         edit.number = strtoll(text, &text, 10);
-    }
     edit.text = *text == ' ' ? text + 1 : text;
-    if (line[0] != '\0' && strchr("aicd", line[0]) != NULL) {
+    if (line[0] != '\0' && strchr("aicd", line[0]) != NULL)
         carry_out(editor, edit);
-    } else if (line[0] == 'p') {
+    else if (line[0] == 'p')
         print_lines(editor);
-    } else if (line[0] == 'u' || line[0] == 'r') {
+    else if (line[0] == 'u' || line[0] == 'r')
         step(editor, line[0] == 'u');
-    } else if (line[0] == 'w') {
+    else if (line[0] == 'w')
         save(editor);
-    } else if (line[0] == 'q' && !is_written) {
+    else if (line[0] == 'q' && !is_written)
         printf("? not written: w, or Q to quit\n");
-    } else if (line[0] != 'q' && line[0] != 'Q') {
+    else if (line[0] != 'q' && line[0] != 'Q')
         printf(HELP);
-    }
     return line[0] != 'Q' && !(line[0] == 'q' && is_written);
 }
 
@@ -285,8 +286,7 @@ int main(int count, char **words)
     size_t room = 0;
     ssize_t length;
     editor.path = count == 2 ? words[1] : "";
-    int goes_on = count == 2 && open_file(&editor);
-    int status = !goes_on;
+    int goes_on = count == 2 && open_file(&editor), status = !goes_on;
     while (goes_on && printf("> ") > 0 && fflush(stdout) == 0 && (length = getline(&line, &room, stdin)) > 0) {
         line[strcspn(line, "\n")] = '\0';
         goes_on = obey(&editor, line);

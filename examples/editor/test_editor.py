@@ -182,6 +182,34 @@ class Editor(unittest.TestCase):
         self.assertEqual([it for it in printed if it.startswith("?")], ["? not written: w, or Q to quit\n"] * 3)
         self.assertEqual(lines_of(self.path), "")
 
+    def test_other_tables(self):
+        """A store whose table has other columns is refused, and a line that is no text is shown so."""
+        for number, lines in enumerate((b"CREATE TABLE lines(at, PRIMARY KEY(at));", b"CREATE TABLE t(a, PRIMARY KEY(a));")):
+            path = self.folder / f"store{number}"
+            subprocess.run([PROGRAM, path, "shell"], input=lines + b"\n", capture_output=True, check=True)
+            for editor in (EDITOR, SANITIZED):
+                self.assertEqual(run(path, "p", editor=editor)[::2], (1, ""))
+        run(self.path, "a x", "w")
+        subprocess.run([PROGRAM, self.path, "shell"], input=b"UPDATE lines SET text=7 WHERE at=1;\n", check=True)
+        self.assertEqual(run(self.path, "p", editor=SANITIZED), (0, ["1  ?\n"], ""))
+
+    def test_other_program(self):
+        """A log next to the file keeps it from being read and written."""
+        run(self.path, "a x", "w")
+        old = self.path.read_bytes()
+        for suffix in ("-journal", "-wal"):
+            log = self.folder / f"text{suffix}"
+            log.write_bytes(bytes(600))
+            self.assertEqual(run(self.path, "p")[0], 1)
+            log.unlink()
+            terminal = Terminal(self.path)
+            log.write_bytes(bytes(600))
+            terminal.type("a y")
+            self.assertEqual(terminal.type("w"), f"? another program has {self.path}\n")
+            self.assertEqual(terminal.end(), 0)
+            self.assertEqual(self.path.read_bytes(), old)
+            log.unlink()
+
     def test_files_that_are_no_store(self):
         self.path.write_bytes(b"no database, but more than some bytes")
         self.assertEqual(run(self.path, "p")[0], 1)
