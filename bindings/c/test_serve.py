@@ -322,7 +322,8 @@ class Typed(unittest.TestCase):
         """Each error has its name and number in the documents, and its sentence."""
         header, source = (HERE / "vollikash_store.h").read_text(), (HERE / "vollikash_store.c").read_text()
         documents = "".join((HERE.parents[1] / "docs" / name).read_text() for name in ("ERRORS.md", "CALLS.md"))
-        numbers = re.findall(r"^    VOLLIKASH_([A-Z_]+) = (\d+),? +/\*", header, re.M)
+        enum = re.search(r"^enum vollikash_store_code \{(.*?)^\};", header, re.M | re.S)[1]
+        numbers = re.findall(r"^    VOLLIKASH_([A-Z_]+) = (\d+),? +/\*", enum, re.M)
         self.assertGreater(len(numbers), 18)
         for name, number in numbers:
             title = "".join(word.capitalize() for word in name.split("_"))

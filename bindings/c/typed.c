@@ -530,6 +530,10 @@ static void test_decisions(struct vollikash_db *db)
     EXPECT(VOLLIKASH_RANGE, vollikash_apply(db, made, length, 0, decide, &decisions, &report));
     EXPECT(VOLLIKASH_TRUNCATED, vollikash_apply(db, made, length - 1, 0, decide, &decisions, &report));
     REQUIRE(vollikash_error(db)->detail == length - 1);
+    decisions.choices[VOLLIKASH_CONFLICT_DATA] = ABORT; /* the first one, after which nothing is asked */
+    memset(decisions.asked, 0, sizeof decisions.asked);
+    EXPECT_ONCE(VOLLIKASH_ABORT, vollikash_apply(db, made, length, 0, decide, &decisions, &report));
+    REQUIRE(decisions.asked[1] == 1 && decisions.asked[2] == 0 && decisions.asked[3] == 0);
     HAS(1, "other");
     HAS(3, "third");
     EXPECT_ONCE(VOLLIKASH_NO_TRANSACTION, vollikash_commit(db));

@@ -999,13 +999,25 @@ static int take_report(struct vollikash_db *db, struct reader *answer, struct vo
     return db->error.code;
 }
 
-/* Asks `decide` about each conflict, or aborts without it, and puts the conflict and the choice. */
+/*
+** Asks `decide` about each conflict that comes with the choices so far, and puts each with its choice. A second
+** conflict of a change comes if the first one was to be replaced. After one that aborts the apply nothing is asked.
+*/
 static void put_choices(struct writer *call, const struct vollikash_conflict *conflicts, size_t count,
                         vollikash_decide *decide, void *context)
 {
+    int choice = VOLLIKASH_CHOICE_OMIT, is_over = decide == NULL;
     put_count(call, count);
     for (size_t at = 0; at < count && call->code == VOLLIKASH_OK; at++) {
-        int choice = decide == NULL ? VOLLIKASH_CHOICE_ABORT : decide(context, &conflicts[at]);
+        int is_second = at > 0 && conflicts[at].change == conflicts[at - 1].change;
+        if (is_over) {
+            choice = VOLLIKASH_CHOICE_ABORT;
+        } else if (is_second && choice != VOLLIKASH_CHOICE_REPLACE) {
+            choice = VOLLIKASH_CHOICE_OMIT;
+        } else {
+            choice = decide(context, &conflicts[at]);
+            is_over = choice == VOLLIKASH_CHOICE_ABORT;
+        }
         put_number(call, conflicts[at].change);
         put_byte(call, conflicts[at].kind);
         put_text(call, conflicts[at].table);

@@ -17,7 +17,7 @@
 **
 **   * A `db` and a cursor begin as {0}. Only the calls below change them. They may be
 **     moved to another place, but of two copies only one is used after that. One call at a
-**     time uses a `db` or a cursor. Before a `db` or a cursor is gone, it is closed.
+**     time uses a `db` or a cursor. Close each of them before it goes out of scope.
 **   * Names of tables and columns are strings, so a name with a zero byte cannot be used.
 **     No pointer is NULL, but for `decide`, its `context`, and pointers to no values,
 **     no columns and no bytes. What a call fills in may be uninitialized.
@@ -58,7 +58,7 @@ enum vollikash_store_code {
     VOLLIKASH_BAD_SCHEMA = 32,       /* an empty name, a column twice, no key, or more than 32767 columns */
     VOLLIKASH_KEY_TAKEN = 33,        /* there is a row with this key */
     VOLLIKASH_NO_ROW = 34,           /* there is no row with this key */
-    VOLLIKASH_ROW_WIDTH = 35,        /* a row or a key has not one value for each of its columns */
+    VOLLIKASH_ROW_WIDTH = 35,        /* a row or a key does not have one value for each of its columns */
     VOLLIKASH_NULL_IN_KEY = 36,      /* a value of a key is NULL */
     VOLLIKASH_NOT_NULL = 39,         /* a value is NULL in a column that refuses it */
     VOLLIKASH_WIDER = 40,            /* the store's table has more columns than that of the changeset */
@@ -169,7 +169,7 @@ struct vollikash_refusal {
 };
 
 struct vollikash_db {
-    struct vollikash_store store; /* for vollikash_store_call; it is not opened or closed by other calls */
+    struct vollikash_store store; /* for vollikash_store_call; vollikash_open and vollikash_close open and close it */
     struct vollikash_refusal error;
     void *at; /* what only the calls below use */
 };
@@ -229,7 +229,7 @@ int vollikash_schema(struct vollikash_db *db, const char *table, struct vollikas
 /* Creates a table. Other errors: TABLE_EXISTS, BAD_SCHEMA, and RANGE for other marks. */
 int vollikash_create(struct vollikash_db *db, const char *table, struct vollikash_columns columns) VOLLIKASH_NONNULL;
 
-/* Returns the number of rows of a table. Other errors: NO_TABLE. */
+/* Returns the number of rows of a table, in time in proportion to it. Other errors: NO_TABLE. */
 int vollikash_count(struct vollikash_db *db, const char *table, uint64_t *count) VOLLIKASH_NONNULL;
 
 /* Returns the row of a key. Other errors: NO_TABLE, ROW_WIDTH, NULL_IN_KEY, RANGE, and NO_ROW if there is none. */
@@ -300,12 +300,12 @@ int vollikash_rollback(struct vollikash_db *db) VOLLIKASH_NONNULL;
 
 /* ---- Changesets. */
 
-/* The kinds of conflicts, SQLite's numbers. docs/COMMAND.md, "Apply a changeset", has what they are. */
+/* The kinds of conflicts, SQLite's numbers. REPLACE is possible for DATA and CONFLICT. */
 enum {
-    VOLLIKASH_CONFLICT_DATA = 1,
-    VOLLIKASH_CONFLICT_NOTFOUND = 2,
-    VOLLIKASH_CONFLICT_CONFLICT = 3,
-    VOLLIKASH_CONFLICT_CONSTRAINT = 4
+    VOLLIKASH_CONFLICT_DATA = 1,      /* the row to update or to delete has other values */
+    VOLLIKASH_CONFLICT_NOTFOUND = 2,  /* it is not there */
+    VOLLIKASH_CONFLICT_CONFLICT = 3,  /* there is a row with the key of the row to insert */
+    VOLLIKASH_CONFLICT_CONSTRAINT = 4 /* the new row has NULL in a column that refuses it */
 };
 
 /* What is done about a conflict, SQLite's numbers. */
@@ -316,7 +316,8 @@ struct vollikash_conflict {
     const char *table;            /* the table of the change, */
     struct vollikash_row key;     /* and its key */
     struct vollikash_row current; /* for `decide` the row of this key; without values if there is none */
-    uint64_t change;              /* for `decide` the zero-based index of the change in the file */
+    uint64_t change;              /* for `decide` the zero-based index of the change in the file: vollikash_next, called
+                                  ** once more often, has its values */
     int choice;                   /* in a report what was done about it */
 };
 
@@ -339,12 +340,12 @@ typedef int vollikash_decide(void *context, const struct vollikash_conflict *con
 
 /*
 ** Applies a changeset in the transaction that is open, or in one of its own. `decide` is called once for
-** each conflict that the file has with the store, before anything is written, and for all of them
-** whatever it chooses; without it, NULL, the first conflict aborts the apply. A row that could not be
-** replaced is a second conflict of its change, CONSTRAINT. If `ignore_noop` is not 0, no-ops are not
-** conflicts, as with SQLITE_CHANGESETAPPLY_IGNORENOOP. Other errors: 1 to 18, WIDER, ABORT, MISUSE;
-** RANGE if `decide` returns another number; CONFLICTS_DIFFER; TRANSACTION_ENDED if memory runs out
-** in a call of `decide`.
+** each conflict that the file has with the store, in the order of the file, before anything is written;
+** without it, NULL, the first conflict aborts the apply. A row that could not be replaced is a second
+** conflict of its change, CONSTRAINT. After ABORT nothing more is asked. If `ignore_noop` is not 0,
+** no-ops are not conflicts, as with SQLITE_CHANGESETAPPLY_IGNORENOOP. Other errors: 1 to 18, WIDER,
+** ABORT, MISUSE; RANGE if `decide` returns another number; CONFLICTS_DIFFER; TRANSACTION_ENDED if
+** memory runs out in a call of `decide`.
 */
 int vollikash_apply(struct vollikash_db *db, const uint8_t *file, size_t length, int ignore_noop,
                     vollikash_decide *decide, void *context, struct vollikash_report *report);
@@ -369,7 +370,7 @@ int vollikash_session_attach(struct vollikash_db *db, const char *table) VOLLIKA
 */
 int vollikash_session_changeset(struct vollikash_db *db, const uint8_t **file, size_t *length) VOLLIKASH_NONNULL;
 
-/* Returns 1 if no row of the attached tables was written, else 0. Other errors: NO_SESSION. */
+/* Sets *is_empty to 1 if no row of the attached tables was written, else to 0. Other errors: NO_SESSION. */
 int vollikash_session_is_empty(struct vollikash_db *db, int *is_empty) VOLLIKASH_NONNULL;
 
 /* Restores the attached tables. What is noted stays. Other errors: NO_SESSION, WRONG_STORE. */

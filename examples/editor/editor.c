@@ -2,8 +2,7 @@
 ** An editor of lines, which keeps its document in a store in memory. Each command is a transaction that a session
 ** records: its changeset is reverted by `u`, and applied again by `r`.
 **
-**     cc -std=c11 editor.c $(pkg-config --cflags --libs vollikash) -o editor
-**     ./editor FILE
+**     cc -std=c11 -Ibindings/c examples/editor/editor.c bindings/c/out/libvollikash.a -o editor && ./editor FILE
 **
 ** FILE is a database with the table `lines`. `w` writes a new file next to it and renames that, so that FILE is the
 ** old one or the new one whenever the editor is killed.
@@ -208,6 +207,7 @@ static void save(struct editor *editor)
         printf("%zu bytes\n", length);
     } else {
         printf("? %s: %s\n", editor->path, strerror(errno));
+        unlink(path);
     }
     free(path);
 }
