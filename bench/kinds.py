@@ -66,6 +66,10 @@ RECORDS = "the file is checked page by page and index by index, and then each re
 OPENS = "the store is opened first (`opening a store`), and each row is a record of one table"
 ON_KIT = OPENS + "; the kit copies a blob five times"
 IN_FILES = "the store is in files in memory, with a log, and each row is a record of one table"
+IN_MEMORY = "the file and its log are in memory, next to the kit's cache"
+STATEMENTS = "the kit's INSERT of the row, and its SELECT for the changeset, have six tenths of it"
+NOTED = IN_MEMORY + ", and the session keeps a copy of each key"
+MODULES = "the package has more modules than the program for SQLite's library"
 SENDS = "each row is a call to the program, another process"
 RECORDED = SENDS + "; SQLite's side has no session"
 LISTS = "the kit lists the rows of a table as a store is opened, caches pages, and copies rows"
@@ -108,14 +112,14 @@ def store(
 
 def recorded(name: str, operation: str) -> Kind:
     """Return the kind of inserts in C in a store in memory, which a session records."""
-    made = call(operation, "file", (INSERTS,), IN_FILES, IN_FILES)
+    made = call(operation, "file", (INSERTS,), STATEMENTS, NOTED)
     return made._replace(name=f"`vollikash_insert` in a session{name}", most=MANY)
 
 
 def look(name: str, file: str = "file", theirs: str = "") -> Kind:
     """Return the kind of a call on changes from Python."""
     ours = f"./package ours {name} {file}"
-    return Kind(f"`{name}`", ours, theirs, LOOKED, UNKNOWN, UNKNOWN, MANY)
+    return Kind(f"`{name}`", ours, theirs, LOOKED, UNKNOWN, MODULES, MANY)
 
 
 APPLY = command("apply", " store", "apply base file", APPLIED, ON_KIT)._replace(
@@ -159,7 +163,7 @@ KINDS = (
     store("insert_many", "insert_many`", "insert_many", SENDS),
     store("rows", "rows`", "rows", OPENS + ", which another process reads", LISTS, "full"),
     store("get", "get`", "get", OPENS + ", which another process reads", LISTS, "full"),
-    store("insert_in_process", "insert` in process", "insert_in_memory", IN_FILES),
+    store("insert_in_process", "insert` in process", "insert_in_memory", IN_FILES, IN_MEMORY),
     store("rows_in_process", "rows` in process", "rows", OPENS, LISTS, "full"),
     store("get_in_process", "get` in process", "get", OPENS, LISTS, "full"),
     store("edit_in_process", "update` and undo in process", "", UNKNOWN),
