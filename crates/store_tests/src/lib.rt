@@ -3,8 +3,8 @@
 //! `rows` makes rows and edits, and has tables in memory, `edits` the edits of rows in memory and in a batch, `apply`
 //! runs of changesets over rows in memory and in batches, and the text of a report, `adoption` databases that are
 //! adopted as stores, `session` attached tables, changesets, undos and stores that are not those of a session,
-//! `calling` the callers that `CALLING.md` of `cs_store`, `cs_apply` and `cs_session` shows, and `command_line` command
-//! lines over files in memory.
+//! `history` actions that are undone and done again, `calling` the callers that `CALLING.md` of `cs_store`, `cs_apply`
+//! and `cs_session` shows, and `command_line` command lines over files in memory.
 //!
 //! The table t of these tests has the columns a and b, with the key a.
 #![tactic(auto)]
@@ -19,6 +19,8 @@ mod calling;
 mod command_line;
 #[cfg(test)]
 mod edits;
+#[cfg(test)]
+mod history;
 #[cfg(test)]
 mod rows;
 #[cfg(test)]

@@ -1,0 +1,10 @@
+pub mod SideLemmas
+pub mod ApartLemmas
+pub mod EditLemmas
+pub mod FirstLemmas
+pub mod MoveLemmas
+pub mod TurnLemmas
+pub mod ActLemmas
+pub mod RunLemmas
+pub mod WorkLemmas
+pub mod FaultLemmas

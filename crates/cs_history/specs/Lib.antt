@@ -1,0 +1,9 @@
+pub mod Stored
+pub mod Actions
+pub mod Moving
+pub mod Carrying
+pub mod Runs
+pub mod Faults
+pub use Rattle.cs_value.specs.State
+pub use Rattle.cs_apply_engine.specs.Running
+pub use Rattle.cs_session_notes.specs.FirstImages

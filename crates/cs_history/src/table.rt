@@ -1,0 +1,149 @@
+//! The table of a history, and its rows.
+ghost use Rattle.std.specs.Prelude.{◌≡◌, Ok, IfOk, IfErr, IsTrue, OnOk, map, string_bytes};
+ghost use Rattle.sqlite.specs.Held.{state};
+ghost use Rattle.cs_value.specs.State.{schema_at};
+ghost use Rattle.cs_rows.specs.Editing.{Declares};
+ghost use Rattle.cs_history.specs.Faults.{IsOther};
+ghost use Rattle.cs_history.specs.Carrying.{Carries, Works};
+ghost use Rattle.cs_history.specs.Stored.{IsHistory, Opens, history_schema};
+
+use crate::fault::HistoryFault;
+use cs_rows::Schema;
+use cs_store::Transaction;
+use sqlite::Alter;
+use std::alloc::Global;
+
+/// The flags of the columns: the first one is the key.
+pub(crate) const FLAGS: [u8; 3] = [1, 0, 0];
+
+/// Opens a history in a transaction: declares its table without rows if no table has the name. Nothing is committed.
+///
+/// The columns are `action`, which is the key and has an integer, `label`, which has a text, and `changeset`, which has
+/// the file of a changeset as a blob. None takes NULL. The number of an action that is done is below zero.
+///
+/// # Errors
+///
+/// [`NotHistory`](HistoryFault::NotHistory) if a table of the name has other columns, another key or other rules for
+/// NULL, and [`BadSchema`](cs_store::StoreError::BadSchema) if no table can have the name. `StoreFault` or `NoMemory`
+/// if the transaction has ended, the database refuses or memory runs out, and
+/// [`DamagedStore`](cs_store::StoreError::DamagedStore) if the disk does not return what was written. After a refusal
+/// the transaction shows what it showed before, or it has ended and the store is as it was when it began.
+pub fn open_in_transaction<S: Alter + Drop>(
+    alloc: Global,
+    transaction: &mut Transaction<S>,
+    name: &str,
+) -> Result<(), HistoryFault>
+    ensures opened { Carries (λ _ old new. Opens name.now old new) (state S.Store transaction.old)
+        (state S.Store transaction.new) result }
+{
+    transaction.store_law();
+    transaction.mark()?;
+    let result = open_table(alloc, transaction, name);
+    transaction.end_call(result.is_ok())?;
+    result
+}
+
+/// Declares the table of a history if no table has the name.
+fn open_table<S: Alter + Drop>(
+    alloc: Global,
+    transaction: &mut Transaction<S>,
+    name: &str,
+) -> Result<(), HistoryFault>
+    ensures works { Works (λ _ old new. Opens name.now old new) (state S.Store transaction.old)
+        (state S.Store transaction.new) result }
+{
+    match find_schema(alloc, transaction, name)? {
+        Some(schema) => check_schema(&schema),
+        None => declare_table(alloc, transaction, name),
+    }
+}
+
+/// Checks that the table of a name is a history.
+pub(crate) fn check_table<S: Alter + Drop>(
+    alloc: Global,
+    transaction: &mut Transaction<S>,
+    name: &str,
+) -> Result<(), HistoryFault>
+    ensures works { Works (λ _ old new. (new ≡ old) × IsHistory old name.now) (state S.Store transaction.old)
+        (state S.Store transaction.new) result }
+    ensures named { IfErr result IsOther }
+{
+    match find_schema(alloc, transaction, name)? {
+        Some(schema) => check_schema(&schema),
+        None => Err(HistoryFault::NotHistory),
+    }
+}
+
+/// Returns the schema of a table, if there is one.
+fn find_schema<S: Alter + Drop>(
+    alloc: Global,
+    transaction: &mut Transaction<S>,
+    name: &str,
+) -> Result<Option<Schema>, HistoryFault>
+    ensures works { Works (λ o old new. (new ≡ old) × (o ≡ schema_at old name.now)) (state S.Store transaction.old)
+        (state S.Store transaction.new) result }
+    ensures named { IfErr result IsOther }
+{
+    Ok(transaction.schema(alloc, name)?)
+}
+
+/// Checks that a schema is that of a history.
+fn check_schema(schema: &Schema) -> Result<(), HistoryFault>
+    ensures checked { OnOk result (schema.now ≡ history_schema) }
+    ensures named { IfErr result IsOther }
+{
+    if !are_names(schema.columns())
+        || schema.flags() != &FLAGS[..]
+        || schema.refuses() != &[true, true, true][..]
+    {
+        return Err(HistoryFault::NotHistory);
+    }
+    Ok(())
+}
+
+/// Returns whether these are the names of the columns of a history.
+fn are_names(columns: &[String]) -> bool
+    ensures { IsTrue result → map string_bytes columns.now ≡ history_schema.columns }
+{
+    let [action, label, changeset] = columns else {
+        return false;
+    };
+    if action.as_str() != "action" {
+        return false;
+    }
+    if label.as_str() != "label" {
+        return false;
+    }
+    changeset.as_str() == "changeset"
+}
+
+/// Declares the table of a history, where no table has the name.
+fn declare_table<S: Alter + Drop>(
+    alloc: Global,
+    transaction: &mut Transaction<S>,
+    name: &str,
+) -> Result<(), HistoryFault>
+    ensures works { Works (λ _ old new. Declares old name.now history_schema (Ok new)) (state S.Store transaction.old)
+        (state S.Store transaction.new) result }
+{
+    let columns = column_names(alloc)?;
+    transaction.declare(
+        alloc,
+        name,
+        &columns,
+        &[true, false, false],
+        &[true, true, true],
+    )?;
+    Ok(())
+}
+
+/// Returns the names of the columns of a history.
+fn column_names(alloc: Global) -> Result<Vec<String>, HistoryFault>
+    ensures made { IfOk result (λ names. map string_bytes names.items ≡ history_schema.columns) }
+{
+    let mut names = Vec::new(alloc);
+    names.push(String::from_str(alloc, "action")?)?;
+    names.push(String::from_str(alloc, "label")?)?;
+    names.push(String::from_str(alloc, "changeset")?)?;
+    Ok(names)
+}

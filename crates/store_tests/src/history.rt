@@ -1,0 +1,93 @@
+//! Histories: actions that insert a row into t, undos and redos in one transaction.
+use crate::rows::{Call, edit_of, end};
+use crate::session::{attached, begun};
+use cs_history::{
+    HistoryFault, act_in_transaction, open_in_transaction, redo_in_transaction, undo_in_transaction,
+};
+use cs_session::Session;
+use cs_store::{Edit, Transaction};
+use cs_value::Value;
+use sqlite::{Alter, MemStore};
+use std::alloc::Global;
+use std::process::Abort;
+
+/// A step, whether it is accepted, and the number of rows that t has then.
+type Expected = (Step, bool, u64);
+
+#[derive(Clone, Copy)]
+enum Step {
+    /// Inserts a row.
+    Act(&'static [Value<'static>]),
+    /// Changes nothing.
+    Rest,
+    Undo,
+    Redo,
+}
+
+const STEPS: &[Expected] = &[
+    (Step::Undo, false, 0),
+    (Step::Act(&[Value::Int(1), Value::Null]), true, 1),
+    (Step::Act(&[Value::Int(2), Value::Null]), true, 2),
+    (Step::Redo, false, 2),
+    (Step::Undo, true, 1),
+    (Step::Undo, true, 0),
+    (Step::Undo, false, 0),
+    (Step::Redo, true, 1),
+    (Step::Rest, true, 1),
+    (Step::Redo, true, 2),
+    (Step::Undo, true, 1),
+    (Step::Act(&[Value::Int(3), Value::Null]), true, 2),
+    (Step::Redo, false, 2),
+    (Step::Undo, true, 1),
+    (Step::Undo, true, 0),
+];
+
+/// Carries out an edit that a session records, and notes it as an action.
+fn act<S: Alter + Drop>(
+    alloc: Global,
+    transaction: &mut Transaction<S>,
+    session: &mut Session,
+    edit: &Edit,
+) -> Result<(), HistoryFault> {
+    session.edit_in_transaction(alloc, transaction, edit)?;
+    act_in_transaction(alloc, transaction, "undo", "Insert", session)?;
+    Ok(())
+}
+
+/// Carries out a step, and returns whether it is accepted.
+fn carry_out(
+    rt: &(impl Abort + AllocGlobal),
+    transaction: &mut Transaction<MemStore>,
+    session: &Session,
+    step: Step,
+) -> bool {
+    let mut session = session.unwritten(rt.alloc()).expect(rt, "memory");
+    match step {
+        Step::Act(row) => {
+            let edit = edit_of(rt, Call::Insert("t", row));
+            act(rt.alloc(), transaction, &mut session, &edit).is_ok()
+        }
+        Step::Rest => {
+            act_in_transaction(rt.alloc(), transaction, "undo", "Rest", &session).is_ok()
+        }
+        Step::Undo => undo_in_transaction(rt.alloc(), transaction, "undo").is_ok(),
+        Step::Redo => redo_in_transaction(rt.alloc(), transaction, "undo").is_ok(),
+    }
+}
+
+#[test]
+fn undoes_and_redoes_actions(rt: HostRuntime) {
+    let (store, session) = attached(&rt);
+    let mut transaction = begun(&rt, store);
+    let opened = open_in_transaction(rt.alloc(), &mut transaction, "undo");
+    assert!(rt; opened.is_ok());
+    for (place, step) in STEPS.iter().enumerate() {
+        assert!(rt;
+            carry_out(&rt, &mut transaction, &session, step.0) == step.1,
+            "at {place}"
+        );
+        let count = transaction.count(rt.alloc(), "t").expect(&rt, "a table");
+        assert!(rt; count == step.2, "at {place}");
+    }
+    end(transaction.roll_back());
+}
