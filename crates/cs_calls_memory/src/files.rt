@@ -8,8 +8,8 @@ ghost use Rattle.cs_store_memory.specs.Memory.{HasTables, bytes_of};
 ghost use Rattle.cs_calls_memory.specs.Hosting.{HoldsIn, IsOpenedIn, image_of};
 
 use cs_store::{Store, StoreError};
-use cs_store_memory::{MemoryFile, MemoryStore, close_file};
-use sqlite::{Files, Options};
+use cs_store_memory::{MemoryFile, MemoryStore, close_file, memory_options};
+use sqlite::Files;
 use std::alloc::Global;
 
 /// Returns a copy of bytes.
@@ -56,7 +56,7 @@ pub(crate) fn open_copy(alloc: Global, files: &Files<MemoryFile>) -> Result<Memo
         log: copy_of(alloc, files.log.as_slice())?,
         db: copy_of(alloc, files.db.as_slice())?,
     };
-    match Store::open_files(alloc, copies, Options::new(0), false) {
+    match Store::open_files(alloc, copies, memory_options(), false) {
         Ok(store) => {
             store.crash_law();
             Ok(store)

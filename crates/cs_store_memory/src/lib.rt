@@ -15,5 +15,6 @@ mod store;
 
 pub use file::MemoryFile;
 pub use store::{
-    MemoryStore, close_file, closed_file_law, memory_files_law, open_file, open_memory,
+    MemoryStore, close_file, closed_file_law, memory_files_law, memory_options, open_file,
+    open_memory,
 };

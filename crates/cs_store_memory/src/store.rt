@@ -20,6 +20,18 @@ use std::alloc::Global;
 /// A store in files in memory.
 pub type MemoryStore = Store<FileStore<MemoryFile>>;
 
+/// How many pages a store in memory keeps a copy of: 2 MB, as SQLite does by default.
+const CACHE_PAGES: usize = 500;
+
+/// Returns how a store in files in memory is opened. Each opening takes the memory of the whole cache.
+pub fn memory_options() -> Options
+    ensures cache { result.cache_pages ≡ 500 }
+{
+    let mut options = Options::new(0);
+    options.cache_pages = CACHE_PAGES;
+    options
+}
+
 /// Returns a new store in memory, without tables.
 ///
 /// # Errors
@@ -53,7 +65,7 @@ pub fn open_file(alloc: Global, db: MemoryFile) -> Result<MemoryStore, StoreErro
         log: MemoryFile::new(alloc),
         db,
     };
-    match Store::open_files(alloc, files, Options::new(0), false) {
+    match Store::open_files(alloc, files, memory_options(), false) {
         Ok(store) => Ok(store),
         Err((error, _left)) => Err(error),
     }
