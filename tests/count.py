@@ -10,8 +10,8 @@ import sys
 
 TOP = pathlib.Path(__file__).resolve().parent.parent
 
-# The parts that unittest reports: eight of the bindings, and each suite.
-PARTS = 8 + len([*TOP.glob("tests/test_*.py"), *TOP.glob("examples/*/test_*.py")])
+# The parts that unittest reports: nine of the bindings, and each suite.
+PARTS = 9 + len([*TOP.glob("tests/test_*.py"), *TOP.glob("examples/*/test_*.py")])
 
 said = sys.stdin.read()
 gate = [tuple(map(int, counts)) for counts in re.findall(r"^(\d+) passed, (\d+) failed$", said, re.M)]

@@ -7,7 +7,8 @@
 /* The numbers of calls and of answers. */
 enum {
     TABLES = 1, SCHEMA, DECLARE, GET, ROWS, COUNT, INSERT, UPDATE, DELETE, PUT, BEGIN, COMMIT, ROLL_BACK,
-    APPLY_WITH_CHOICES = 15, REHEARSE, REVERT, OPEN_SESSION, ATTACH, CHANGESET, IS_EMPTY, UNDO, CLOSE_SESSION
+    APPLY_WITH_CHOICES = 15, REHEARSE, REVERT, OPEN_SESSION, ATTACH, CHANGESET, IS_EMPTY, UNDO, CLOSE_SESSION,
+    OPEN_HISTORY = 25, BEGIN_ACTION, UNDO_ACTION, REDO_ACTION, KEEP_ACTIONS, KEEP_BYTES
 };
 enum {
     DONE = 0, NAMES, COLUMNS, ROW_OR_NONE, PAGE, NUMBER, REPORT, CONFLICTS, FILE_OF_SESSION, YES_OR_NO,
@@ -164,6 +165,10 @@ static const struct {
     {VOLLIKASH_NO_TRANSACTION, "no transaction is open"},
     {VOLLIKASH_TRANSACTION_ENDED, "an earlier error has ended the transaction"},
     {VOLLIKASH_CONFLICTS_DIFFER, "the store has other conflicts than those that were decided"},
+    {VOLLIKASH_NOT_HISTORY, "the table is not a history"},
+    {VOLLIKASH_NOTHING_LEFT, "no action is left"},
+    {VOLLIKASH_DAMAGED_HISTORY, "a row of the history is not one of an action"},
+    {VOLLIKASH_HISTORY_FULL, "the history cannot take the action"},
 };
 
 /* Puts the sentence for a code into `message`, which has VOLLIKASH_MESSAGE_ROOM bytes. */
@@ -1164,4 +1169,49 @@ int vollikash_session_undo(struct vollikash_db *db, struct vollikash_report *rep
 int vollikash_session_close(struct vollikash_db *db)
 {
     return command(db, CLOSE_SESSION);
+}
+
+/* ---- A history. */
+
+/* Makes a call on a history that has no other part. */
+static int call_history(struct vollikash_db *db, int number, const char *history)
+{
+    struct writer call = start_on(db, number, history);
+    return carry_out(db, &call);
+}
+
+int vollikash_history_open(struct vollikash_db *db, const char *history)
+{
+    return call_history(db, OPEN_HISTORY, history);
+}
+
+int vollikash_history_begin(struct vollikash_db *db, const char *history, const char *label)
+{
+    struct writer call = start_on(db, BEGIN_ACTION, history);
+    put_text(&call, label);
+    return carry_out(db, &call);
+}
+
+int vollikash_history_undo(struct vollikash_db *db, const char *history)
+{
+    return call_history(db, UNDO_ACTION, history);
+}
+
+int vollikash_history_redo(struct vollikash_db *db, const char *history)
+{
+    return call_history(db, REDO_ACTION, history);
+}
+
+/* Makes a call that drops the oldest actions of a history. */
+static int keep(struct vollikash_db *db, int number, const char *history, size_t limit)
+{
+    struct writer call = start_on(db, number, history);
+    put_count(&call, limit);
+    return carry_out(db, &call);
+}
+
+int vollikash_history_keep(struct vollikash_db *db, const char *history, size_t actions, size_t bytes)
+{
+    int code = keep(db, KEEP_ACTIONS, history, actions);
+    return code != VOLLIKASH_OK ? code : keep(db, KEEP_BYTES, history, bytes);
 }

@@ -72,7 +72,11 @@ enum vollikash_store_code {
     VOLLIKASH_FRAME_TOO_LONG = 94,   /* a part of a call or of its answer is too long */
     VOLLIKASH_NO_TRANSACTION = 96,   /* no transaction is open */
     VOLLIKASH_TRANSACTION_ENDED = 97, /* an earlier error has ended the transaction */
-    VOLLIKASH_CONFLICTS_DIFFER = 99  /* `decide` has changed what it was asked about */
+    VOLLIKASH_CONFLICTS_DIFFER = 99, /* `decide` has changed what it was asked about */
+    VOLLIKASH_NOT_HISTORY = 100,     /* the table is not a history */
+    VOLLIKASH_NOTHING_LEFT = 101,    /* no action is left to undo, or to redo */
+    VOLLIKASH_DAMAGED_HISTORY = 102, /* a row of the history is not one of an action */
+    VOLLIKASH_HISTORY_FULL = 103     /* no number is left for an action, or it is too long */
 };
 
 /*
@@ -378,6 +382,39 @@ int vollikash_session_undo(struct vollikash_db *db, struct vollikash_report *rep
 
 /* Closes the session. Other errors: NO_SESSION. */
 int vollikash_session_close(struct vollikash_db *db) VOLLIKASH_NONNULL;
+
+/*
+** ---- A history. It keeps the actions on a store in a table, to undo them and to do them again, and is
+** saved with the store. docs/CALLS.md has its columns. Each of these calls makes a transaction: it
+** returns TRANSACTION_OPEN while one is open, SESSION_OPEN while a session is, and NOT_HISTORY if the
+** table is not a history.
+*/
+
+/* Opens a history: creates its table if there is no table with the name. Other errors: BAD_SCHEMA. */
+int vollikash_history_open(struct vollikash_db *db, const char *history) VOLLIKASH_NONNULL;
+
+/*
+** Begins a transaction that is an action. vollikash_commit notes what it has changed in all tables but
+** histories, if anything, and forgets what was undone. A table that is created in it is not noted.
+*/
+int vollikash_history_begin(struct vollikash_db *db, const char *history, const char *label) VOLLIKASH_NONNULL;
+
+/*
+** Undoes the last action that is done. Other errors: NOTHING_LEFT; ABORT at the first conflict if its
+** rows were changed since; WIDER; DAMAGED_HISTORY, HISTORY_FULL and 1 to 18 if another program has
+** written its row.
+*/
+int vollikash_history_undo(struct vollikash_db *db, const char *history) VOLLIKASH_NONNULL;
+
+/* Does the action again that was undone last. Other errors: those of vollikash_history_undo. */
+int vollikash_history_redo(struct vollikash_db *db, const char *history) VOLLIKASH_NONNULL;
+
+/*
+** Forgets the oldest actions that are done, which remain done: but for the last ones, at most
+** `actions`, whose changesets have at most `bytes` bytes. Both are at most 2147483647, else this
+** returns FRAME_TOO_LONG. Other errors: DAMAGED_HISTORY.
+*/
+int vollikash_history_keep(struct vollikash_db *db, const char *history, size_t actions, size_t bytes) VOLLIKASH_NONNULL;
 
 #ifdef __cplusplus
 }

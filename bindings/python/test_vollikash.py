@@ -522,8 +522,8 @@ class Numbers(unittest.TestCase):
     def test_codes(self):
         numbers = {name: number for number, name, _ in self.documented()}
         text = (TOP / "docs/CALLS.md").read_text()
-        calls = {name: int(number) for number, name in re.findall(r"\b(9[4-9]) ([A-Z]\w+)", text)}
-        self.assertEqual(len(calls), 5)
+        calls = {name: int(number) for number, name in re.findall(r"\b(9[4-9]|10[0-3]) ([A-Z]\w+)", text)}
+        self.assertEqual(len(calls), 9)
         self.assertEqual({code.title: code.value for code in Code}, {"Ok": 0, **numbers, **calls})
 
     def test_messages(self):

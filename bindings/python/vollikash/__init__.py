@@ -34,12 +34,13 @@ from ._values import UNDEFINED, Field, Op, Undefined, Value
 __all__ = [
     "Action", "AlreadyAttached", "BadSchema", "Builder", "Busy", "Cause", "Change",
     "ChangesetError", "Choice", "Code", "Conflict", "ConflictError", "ConflictsDiffer", "Counts",
-    "DamagedStore", "Error", "Field", "FrameTooLong", "Group", "Interrupted", "JsonError",
-    "KeyTaken", "Kind", "NoRow", "NoSession", "NoTable", "NoTransaction", "NotNull", "NullInKey",
-    "Op", "PendingConflict", "ProgramError", "Report", "RowWidth", "Schema", "Session",
-    "SessionOpen", "Store", "StoreError", "StoreFault", "TableExists", "TransactionEnded",
-    "TransactionOpen", "UNDEFINED", "Undefined", "UndoStack", "UnknownColumn", "Value", "Wider",
-    "WrongStore", "changes", "check", "concat", "dump", "explain", "from_bytes", "from_json",
-    "invert", "number_keys", "open", "read_json", "select", "sql", "stat", "to_json", "write_json",
+    "DamagedHistory", "DamagedStore", "Entry", "Error", "Field", "FrameTooLong", "Group", "History",
+    "HistoryFull", "Interrupted", "JsonError", "KeyTaken", "Kind", "NoRow", "NoSession", "NoTable",
+    "NoTransaction", "NotHistory", "NotNull", "NothingLeft", "NullInKey", "Op", "PendingConflict",
+    "ProgramError", "Report", "RowWidth", "Schema", "Session", "SessionOpen", "Store", "StoreError",
+    "StoreFault", "TableExists", "TransactionEnded", "TransactionOpen", "UNDEFINED", "Undefined",
+    "UndoStack", "UnknownColumn", "Value", "Wider", "WrongStore", "changes", "check", "concat",
+    "dump", "explain", "from_bytes", "from_json", "invert", "number_keys", "open", "read_json",
+    "select", "sql", "stat", "to_json", "write_json",
 ]
 __version__ = "1.0.0"

@@ -22,8 +22,9 @@ from ._values import UNDEFINED as LEFT_OUT, Row, Value, shown
 (
     _TABLES, _SCHEMA, _DECLARE, GET, _ROWS, _COUNT, INSERT, _UPDATE, DELETE, PUT, _BEGIN, _COMMIT,
     _ROLL_BACK, _APPLY, _APPLY_CHOSEN, _REHEARSE, _REVERT, _OPEN_SESSION, _ATTACH, _CHANGESET,
-    _IS_EMPTY, _UNDO, _CLOSE_SESSION, _LIMITS,
-) = range(1, 25)
+    _IS_EMPTY, _UNDO, _CLOSE_SESSION, _LIMITS, _OPEN_HISTORY, _BEGIN_ACTION, _UNDO_ACTION,
+    _REDO_ACTION, _KEEP_ACTIONS, _KEEP_BYTES,
+) = range(1, 31)
 
 # The numbers of answers.
 (
@@ -224,6 +225,31 @@ def _of_table(number: int, table: str) -> bytes:
 schema = functools.partial(_of_table, _SCHEMA)
 count = functools.partial(_of_table, _COUNT)
 attach = functools.partial(_of_table, _ATTACH)
+open_history = functools.partial(_of_table, _OPEN_HISTORY)
+undo_action = functools.partial(_of_table, _UNDO_ACTION)
+redo_action = functools.partial(_of_table, _REDO_ACTION)
+
+
+def begin_action(history: str, label: str) -> bytes:
+    """Return the call that begins an action of a history."""
+    if not isinstance(label, str):
+        raise ValueError(f"a label is a str, and not {type(label).__name__}")
+    try:
+        content = utf8(label)
+    except Unfit:
+        raise ValueError(f"the label {shown(label)} is not Unicode") from None
+    return _framed(bytes([_BEGIN_ACTION]), _name(history), varint(len(content)), content)
+
+
+def _of_limit(number: int, history: str, limit: int) -> bytes:
+    """Return a call that drops the oldest actions of a history."""
+    if not isinstance(limit, int) or not 0 <= limit <= 0x7FFFFFFF:
+        raise ValueError(f"a limit is a number from 0 to 2147483647, and not {limit!r}")
+    return _framed(bytes([number]), _name(history), varint(limit))
+
+
+keep_actions = functools.partial(_of_limit, _KEEP_ACTIONS)
+keep_bytes = functools.partial(_of_limit, _KEEP_BYTES)
 
 
 def declare(table: str, declared: Schema) -> bytes:

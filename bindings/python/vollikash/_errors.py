@@ -82,6 +82,10 @@ class Code(enum.IntEnum):
     NO_TRANSACTION = 96
     TRANSACTION_ENDED = 97
     CONFLICTS_DIFFER = 99
+    NOT_HISTORY = 100
+    NOTHING_LEFT = 101
+    DAMAGED_HISTORY = 102
+    HISTORY_FULL = 103
 
     @property
     def title(self) -> str:
@@ -300,6 +304,22 @@ class ConflictsDiffer(StoreError):
     """The store has other conflicts than those that were decided."""
 
 
+class NotHistory(StoreError):
+    """The table has not the columns of a history."""
+
+
+class NothingLeft(StoreError):
+    """No action of the history is left to undo, or to do again."""
+
+
+class DamagedHistory(StoreError):
+    """Another program has written a row into the history that is not one of an action."""
+
+
+class HistoryFull(StoreError):
+    """The history cannot take the action: its changeset is too long, or no number is left."""
+
+
 # Of each code its class, what comes with it, and what is said about it after its name.
 _KINDS: Mapping[Code, Tuple[Type[StoreError], str, str]] = {
     Code.TABLE_EXISTS: (TableExists, "table", "there is a table {table}"),
@@ -345,6 +365,12 @@ _KINDS: Mapping[Code, Tuple[Type[StoreError], str, str]] = {
     Code.CONFLICTS_DIFFER: (
         ConflictsDiffer, "", "the store has other conflicts than those that were decided"
     ),
+    Code.NOT_HISTORY: (NotHistory, "table", "table {table} is not a history"),
+    Code.NOTHING_LEFT: (NothingLeft, "table", "no action is left in {table}"),
+    Code.DAMAGED_HISTORY: (
+        DamagedHistory, "table", "a row of {table} is not one of an action"
+    ),
+    Code.HISTORY_FULL: (HistoryFull, "table", "{table} cannot take the action"),
 }
 
 

@@ -21,6 +21,7 @@ from ._errors import (
 )
 from ._files import Bytes, as_bytes
 from ._frames import is_run_by
+from ._history import History
 from ._memory import Direct, Memory
 from ._process import Ahead, Process
 from ._schema import Schema
@@ -112,8 +113,8 @@ def _task() -> Optional[object]:
 class _Block:
     """A transaction of a `with` block. A generator's context could be left by a signal within."""
 
-    def __init__(self, store: "Store") -> None:
-        self._store = store
+    def __init__(self, store: "Store", frame: bytes = _calls.BEGIN) -> None:
+        self._store, self.frame = store, frame
 
     def __enter__(self) -> None:
         self._store._begin(self)
@@ -497,6 +498,10 @@ class Store:
         """
         return _Block(self)
 
+    def _block_of(self, frame: bytes) -> ContextManager[None]:
+        """Return the context of a transaction that this call begins."""
+        return _Block(self, frame)
+
     def _begin(self, block: _Block) -> None:
         """Begin the transaction of a block, and hold the lock until it ends."""
         self._server.lock.acquire()
@@ -510,7 +515,7 @@ class Store:
         try:
             self._owner, self._block = _task(), weakref.ref(block)
             self._is_begun = self._is_watched = True
-            self._tell(_calls.BEGIN)
+            self._tell(block.frame)
         except BaseException as error:
             self._end(False)
             if isinstance(error, KeyboardInterrupt):
@@ -657,6 +662,12 @@ class Store:
         with self._server.lock:
             self._expect_allowed(False)
             return self._server.to_bytes()
+
+    def history(self, name: str = "history") -> History:
+        """Return the history that is kept in a table of this name, which is made if it does not
+        exist. A table with other columns raises `NotHistory`.
+        """
+        return History(self, name)
 
     def undo_stack(
         self,

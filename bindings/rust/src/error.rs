@@ -71,6 +71,10 @@ codes! {
     96 NoTransaction "No transaction is open.",
     97 TransactionEnded "An error has ended the transaction.",
     99 ConflictsDiffer "The store has other conflicts than those that were chosen for.",
+    100 NotHistory "The table is not a history.",
+    101 NothingLeft "No action is left to undo, or to redo.",
+    102 DamagedHistory "A row of the history is not one of an action.",
+    103 HistoryFull "The history cannot take the action.",
 }
 
 impl Code {

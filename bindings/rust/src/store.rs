@@ -436,6 +436,95 @@ impl Store {
     }
 }
 
+/// Histories. A history keeps the actions on a store in a table of it, to undo them and to do them
+/// again. It is in the bytes of the store. In a [`Transaction`] these calls are refused with
+/// [`Code::TransactionOpen`], while a session is open with [`Code::SessionOpen`], and with
+/// [`Code::NotHistory`] if the table is not a history.
+impl Store {
+    /// Opens a history: declares its table if there is none.
+    ///
+    /// # Errors
+    ///
+    /// [`Code::BadSchema`] if no table can have the name.
+    ///
+    /// ```
+    /// use vollikash::{Column, Store, Value};
+    ///
+    /// # fn main() -> Result<(), vollikash::StoreError> {
+    /// let mut store = Store::new()?;
+    /// store.declare("t", &[Column::key("a")])?;
+    /// store.open_history("undo")?;
+    /// let mut action = store.begin_action("undo", "Insert a row")?;
+    /// action.insert("t", &[Value::Integer(1)])?;
+    /// action.commit()?;
+    /// store.undo_action("undo")?;
+    /// assert_eq!(store.count("t")?, 0);
+    /// store.redo_action("undo")?;
+    /// assert_eq!(store.count("t")?, 1);
+    /// # Ok(())
+    /// # }
+    /// ```
+    pub fn open_history(&mut self, history: &str) -> Result<(), StoreError> {
+        self.ask(Call::on(Number::OpenHistory, history)?, &answers::DONE)
+    }
+
+    /// Begins a transaction that is an action. Its commit notes what it has changed in all tables
+    /// but histories, if anything, and forgets what was undone. A table that it declares is not
+    /// noted.
+    ///
+    /// # Errors
+    ///
+    /// Those of each call on a history.
+    pub fn begin_action(
+        &mut self,
+        history: &str,
+        label: &str,
+    ) -> Result<Transaction<'_>, StoreError> {
+        let call = Call::on(Number::BeginAction, history)?.file(label.as_bytes())?;
+        Transaction::begin_by(self, call)
+    }
+
+    /// Undoes the last action that is done.
+    ///
+    /// # Errors
+    ///
+    /// [`Code::NothingLeft`] if there is none. [`Code::Abort`] with the first conflict if its rows
+    /// were changed since.
+    pub fn undo_action(&mut self, history: &str) -> Result<(), StoreError> {
+        self.ask(Call::on(Number::UndoAction, history)?, &answers::DONE)
+    }
+
+    /// Does the action again that was undone last.
+    ///
+    /// # Errors
+    ///
+    /// Those of [`Store::undo_action`].
+    pub fn redo_action(&mut self, history: &str) -> Result<(), StoreError> {
+        self.ask(Call::on(Number::RedoAction, history)?, &answers::DONE)
+    }
+
+    /// Forgets the oldest actions that are done, which remain done: but for the last `actions` ones.
+    ///
+    /// # Errors
+    ///
+    /// [`Code::FrameTooLong`] if the number is above 2147483647.
+    pub fn keep_actions(&mut self, history: &str, actions: usize) -> Result<(), StoreError> {
+        let call = Call::on(Number::KeepActions, history)?.count(actions)?;
+        self.ask(call, &answers::DONE)
+    }
+
+    /// Forgets the oldest actions that are done, which remain done: but for the last ones whose
+    /// changesets have at most so many bytes.
+    ///
+    /// # Errors
+    ///
+    /// [`Code::FrameTooLong`] if the number is above 2147483647.
+    pub fn keep_bytes(&mut self, history: &str, bytes: usize) -> Result<(), StoreError> {
+        let call = Call::on(Number::KeepBytes, history)?.count(bytes)?;
+        self.ask(call, &answers::DONE)
+    }
+}
+
 /// Calls as bytes.
 impl Store {
     fn ask<T>(&mut self, call: Call, answer: &Answer<T>) -> Result<T, StoreError> {

@@ -23,6 +23,6 @@ HostGives g old call sent new = ⊥
 -- the store, of which a transaction that is open is rolled back; or why there is none
 abbrev pub GivesStore : {S : Type 0} → Ghosts S → Host S → Result (Held S) StoreError → Type 0
 GivesStore g (Open (AtRest old session)) (Ok new) = new ≡ old
-GivesStore g (Open (InTransaction old session written)) (Ok new) = TakesBack (state g old) (state g new)
+GivesStore g (Open (InTransaction old session written action)) (Ok new) = TakesBack (state g old) (state g new)
 GivesStore g (Closed error) (Err why) = why ≡ error
 GivesStore g old result = ⊥

@@ -17,12 +17,13 @@ use Rattle.cs_calls_requests.specs.declared.call.Call.{Call}
 use Rattle.cs_calls_requests.specs.declared.call.Call.TheVariants as call
 use Rattle.cs_calls_requests.specs.Reading.{call_in}
 use Rattle.cs_calls_server.specs.Serving.{no_memory, too_long}
+use Rattle.cs_history.specs.declared.calling.HistoryCall.TheVariants as history
 use Rattle.cs_calls_service.specs.declared.service.Service.{Service}
 use Rattle.cs_calls_service.specs.declared.sessions.SessionCall.TheVariants as session
 use Rattle.cs_calls_service.specs.Noting.{Outcome}
 use Rattle.cs_calls_service.specs.Service as service
 use Rattle.cs_calls.specs.declared.step.Step.{Step}
-use Rattle.cs_calls.specs.declared.step.Step.TheVariants.{Table, Session, Undo, Begin, Commit, RollBack, Limits}
+use Rattle.cs_calls.specs.declared.step.Step.TheVariants.{Table, Session, Undo, History, Begin, BeginAction, Commit, RollBack, Limits}
 
 -- ---- what a call asks for
 
@@ -51,6 +52,12 @@ step_of call.IsEmpty = Session session.IsEmpty
 step_of call.Undo = Undo
 step_of call.CloseSession = Session session.Close
 step_of call.Limits = Limits
+step_of (call.OpenHistory name) = History name history.Open
+step_of (call.BeginAction name label) = BeginAction (record { history = name; label = label })
+step_of (call.UndoAction name) = History name history.Undo
+step_of (call.RedoAction name) = History name history.Redo
+step_of (call.KeepActions name limit) = History name (history.Forget limit 18446744073709551615)
+step_of (call.KeepBytes name limit) = History name (history.Forget 18446744073709551615 limit)
 
 -- ---- what it does
 
@@ -63,7 +70,9 @@ abbrev pub Takes : {S : Type 0} → Ghosts S → Service S → Step → Outcome 
 Takes g old (Table call) result new = service.CarriesCall g old call result new
 Takes g old (Session call) result new = service.CarriesSessionCall g old call result new
 Takes g old Undo result new = service.Undoes g old result new
+Takes g old (History name call) result new = service.CallsHistory g old name call result new
 Takes g old Begin result new = service.Begins g old result new
+Takes g old (BeginAction action) result new = service.BeginsAction g old action result new
 Takes g old Commit result new = service.Commits g old result new
 Takes g old RollBack result new = service.RollsBack g old result new
 Takes g old Limits (Ok bytes) new = (bytes.items ≡ answer_bytes limits) × (new ≡ old)

@@ -82,7 +82,9 @@ fn take<S: Alter + Drop>(
         Step::Table(call) => service.carry_out(alloc, call),
         Step::Session(call) => service.carry_out_in_session(alloc, &call),
         Step::Undo => service.undo(alloc),
+        Step::History { history, call } => service.call_history(alloc, &history, call),
         Step::Begin => service.begin(alloc),
+        Step::BeginAction(action) => service.begin_action(alloc, action),
         Step::Commit => service.commit(alloc),
         Step::RollBack => service.roll_back(alloc),
         Step::Limits => {

@@ -17,6 +17,6 @@ pub use answering::answer_call;
 pub use cs_calls_answers::{Answer, Refused, answer_read, answer_write};
 pub use cs_calls_requests::{Call, call_read, call_write};
 pub use cs_calls_server::{Answering, Ending, serve};
-pub use cs_calls_service::Service;
+pub use cs_calls_service::{Action, HistoryCall, Service};
 pub use host::Host;
 pub use step::{Step, step_of};

@@ -4,7 +4,8 @@ ghost use Rattle.cs_calls.specs.Steps.{step_of as step_for};
 
 use cs_calls_executor::{ApplyCall, EditCall, ReadCall, TableCall};
 use cs_calls_requests::Call;
-use cs_calls_service::SessionCall;
+use cs_calls_service::{Action, HistoryCall, SessionCall};
+use cs_value::Text;
 
 /// What a call asks a service for.
 #[derive(Drop)]
@@ -15,8 +16,15 @@ pub enum Step {
     Session(SessionCall),
     /// To undo what the session recorded.
     Undo,
+    /// To carry out a call of a history.
+    History {
+        history: Text,
+        call: HistoryCall,
+    },
     /// To begin a transaction.
     Begin,
+    /// To begin one that is an action of a history.
+    BeginAction(Action),
     /// To commit it.
     Commit,
     /// To roll it back.
@@ -82,5 +90,32 @@ pub fn step_of(call: Call) -> Step
         Call::Undo => Step::Undo,
         Call::CloseSession => Step::Session(SessionCall::Close),
         Call::Limits => Step::Limits,
+        Call::OpenHistory { history } => Step::History {
+            history,
+            call: HistoryCall::Open,
+        },
+        Call::BeginAction { history, label } => Step::BeginAction(Action { history, label }),
+        Call::UndoAction { history } => Step::History {
+            history,
+            call: HistoryCall::Undo,
+        },
+        Call::RedoAction { history } => Step::History {
+            history,
+            call: HistoryCall::Redo,
+        },
+        Call::KeepActions { history, limit } => Step::History {
+            history,
+            call: HistoryCall::Forget {
+                keep: u64::from(limit),
+                bytes: u64::MAX,
+            },
+        },
+        Call::KeepBytes { history, limit } => Step::History {
+            history,
+            call: HistoryCall::Forget {
+                keep: u64::MAX,
+                bytes: u64::from(limit),
+            },
+        },
     }
 }

@@ -22,7 +22,7 @@ use Rattle.cs_calls_executor.specs.declared.applying.ApplyCall.{ApplyCall}
 use Rattle.cs_calls_executor.specs.declared.applying.ApplyCall.TheVariants as call
 use Rattle.cs_calls_executor.specs.declared.calls.TableCall.TheVariants.{Apply}
 use Rattle.cs_calls_executor.specs.Answered.{IsAnswered, IsOpen, IsResource, MayEnd, Reads, edited_as}
-use Rattle.cs_calls_executor.specs.Applying.{Applies, AppliesAs, IsToldBy, RefusesAs, Reports}
+use Rattle.cs_calls_executor.specs.Applying.{Applies, AppliesAs, IsToldBy, RefusesAs, Reports, TellsApply}
 use Rattle.cs_calls_executor.specs.declared.calls.Carried.{Carried}
 use Rattle.cs_calls_executor.specs.Calls.{Answers, Finishes, IsUnsent, Ran, Spells, Worked, Works}
 use Rattle.cs_calls_executor.proofs.CallLemmas.{unsent}
@@ -197,3 +197,24 @@ module _ (call : ApplyCall) (old mid : sqlite.State) where
     worked = λ clean inside. two.worked clean call (tables_in old.now) (ran (was_clean mid new two.kept.crash clean) inside);
     spelled = two.spelled;
   }
+
+-- ---- what is told of a fault
+
+module _ (old new : sqlite.State) (e : ApplyFault) where
+  -- it names a conflict, whose key is read
+  pub tells_conflict : (code : ℕ) (k : Conflict) → IsToldBy (Err (code, k)) e → (why : Refused) → Reads (λ tables. Ok (of_conflict code tables k)) old new (Ok why) → TellsApply e old new why
+  tells_conflict code k told why two = record {
+    kept = two.kept;
+    told = λ clean. inl (given (answered (λ tables. Ok (of_conflict code tables k)) old new why two clean).0 ∙ named told);
+  }
+    where
+      given : ◌≡◌ {A = Result Refused Refused} (Ok (of_conflict code (tables_in old.now) k)) (Ok why) → why ≡ of_conflict code (tables_in old.now) k
+      given is = cc
+
+      named : IsToldBy (Err (code, k)) e → of_conflict code (tables_in old.now) k ≡ of_apply_fault (tables_in old.now) e
+      named (inl abort) = rw (abort.0, abort.1) refl
+      named (inr misuse) = rw (misuse.0, misuse.1) refl
+
+  -- its key is not read
+  pub tells_short : {X : Type 0} (told : State → X) (why : Refused) → Reads {X = X} (λ tables. Ok (told tables)) old new (Err why) → TellsApply e old new why
+  tells_short told why two = record { kept = two.kept; told = λ clean. inr (short_read told why two clean) }

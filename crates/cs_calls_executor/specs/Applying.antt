@@ -1,6 +1,9 @@
 -- What a call does that applies a changeset file, or rehearses it.
 use Rattle.std.specs.Prelude.{◌≡◌, ◌⊎◌, ℕ, List, [], map, Result, Ok, Err, string_bytes}
+use Rattle.sqlite.specs.State as sqlite
+use Rattle.sqlite.specs.State.{HasCleanDisk}
 use Rattle.cs_value.specs.State.{State}
+use Rattle.cs_store.specs.Store.{KeepsStore, tables_in}
 use Rattle.cs_rows.specs.Editing.{Edited, written_of}
 use Rattle.cs_apply_conflict_kinds.specs.declared.conflict.Noop.{Noop}
 use Rattle.cs_apply_conflict_kinds.specs.declared.conflict.Noop.TheVariants as noop
@@ -24,6 +27,7 @@ use Rattle.cs_calls_answers.specs.Refusals.{plain_refusal}
 use Rattle.cs_calls_conversions.specs.Conflicts.{conflict_key, of_apply_fault, reported_by}
 use Rattle.cs_calls_parts.specs.declared.conflicts.ChosenConflict.{ChosenConflict}
 use Rattle.cs_calls_parts.specs.declared.conflicts.FoundConflict.{FoundConflict}
+use Rattle.cs_calls_executor.specs.Answered.{IsResource}
 use Rattle.cs_calls_executor.specs.declared.applying.ApplyCall.{ApplyCall}
 use Rattle.cs_calls_executor.specs.declared.applying.ApplyCall.TheVariants.{Apply, Revert, Chosen, Rehearse}
 
@@ -123,3 +127,9 @@ RefusesApply call tables why =
 abbrev pub IsToldBy : Result Refused (ℕ × Conflict) → ApplyFault → Type 0
 IsToldBy (Ok why) fault = (tables : State) → why ≡ of_apply_fault tables fault
 IsToldBy (Err (code, conflict)) fault = ((fault ≡ Abort conflict) × (code ≡ 41)) ⊎ ((fault ≡ Misuse conflict) × (code ≡ 42))
+
+-- What is told of a fault: its refusal by the tables that are shown, or the key of a conflict cannot be read, since memory
+-- ran out, or the database refused.
+pub record TellsApply (fault : ApplyFault) (old new : sqlite.State) (why : Refused) : Type 0 where
+  pub kept : KeepsStore old new
+  pub told : HasCleanDisk new → (why ≡ of_apply_fault (tables_in old.now) fault) ⊎ IsResource why

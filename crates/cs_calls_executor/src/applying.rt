@@ -4,7 +4,7 @@ ghost use Rattle.sqlite.specs.Held.{state};
 ghost use Rattle.cs_calls_answers.specs.declared.answer.Answer.TheVariants.{Report as ReportAnswer};
 ghost use Rattle.cs_calls_conversions.specs.Conflicts.{conflict_key as key_of_conflict, met_by, of_conflict, of_detail, reported_by};
 ghost use Rattle.cs_calls_executor.specs.Answered.{IsOpen, Reads};
-ghost use Rattle.cs_calls_executor.specs.Applying.{IsToldBy};
+ghost use Rattle.cs_calls_executor.specs.Applying.{IsToldBy, TellsApply};
 ghost use Rattle.cs_calls_executor.specs.Calls.{CarriesOut, Finishes, Works};
 ghost use Rattle.cs_calls_executor.specs.declared.calls.TableCall.TheVariants.{Apply as ApplyOf};
 
@@ -164,6 +164,23 @@ fn fault_refusal(fault: ApplyFault) -> Result<Refused, (u64, Conflict)>
         ApplyFault::Misuse(conflict) => Err((42, conflict)),
         ApplyFault::Store(error) => Ok(store_refusal(error)),
         ApplyFault::NoMemory => Ok(Refused::plain(60)),
+    }
+}
+
+/// Returns why an apply is refused. It is 38 StoreFault or 60 NoMemory if the key of a conflict cannot be read.
+pub fn apply_refusal<S: Alter>(
+    alloc: Global,
+    transaction: &mut Transaction<S>,
+    fault: ApplyFault,
+) -> Refused
+    ensures { TellsApply fault (state S.Store transaction.old) (state S.Store transaction.new) result }
+{
+    match fault_refusal(fault) {
+        Ok(refused) => refused,
+        Err((code, conflict)) => match conflict_refusal(alloc, transaction, code, &conflict) {
+            Ok(refused) => refused,
+            Err(refused) => refused,
+        },
     }
 }
 

@@ -18,7 +18,7 @@ mod editing;
 mod reading;
 mod rehearsing;
 
-pub use applying::ApplyCall;
+pub use applying::{ApplyCall, apply_refusal};
 pub use calls::{Carried, EditCall, ReadCall, TableCall, bytes_of, carry_out};
 pub use cs_calls_conversions::Page;
 pub use editing::{declare, delete, insert, put, update};

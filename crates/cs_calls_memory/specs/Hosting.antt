@@ -48,7 +48,7 @@ HoldsIn held image = IsLeftIn held image ⊎ ((image.db ≡ []) × (held ≡ map
 -- the tables of the last commit; a transaction that is open may show others
 abbrev pub LastsFor : MemoryService → State → Type 0
 LastsFor (AtRest store session) held = LeavesOnly (λ left. left ≡ held) (file_state store)
-LastsFor (InTransaction transaction session written) held = LeavesOnly (λ left. left ≡ held) (file_state transaction)
+LastsFor (InTransaction transaction session written action) held = LeavesOnly (λ left. left ≡ held) (file_state transaction)
 
 -- the tables that last of a store, whatever becomes of its transaction
 abbrev pub Lasts : MemoryHost → State → Type 0
@@ -58,7 +58,7 @@ Lasts (Closed closed) held = HoldsIn held (image_of closed.files)
 -- the session of the host, if one is open
 abbrev pub session_in : MemoryService → Option Notes
 session_in (AtRest store session) = session
-session_in (InTransaction transaction session written) = session
+session_in (InTransaction transaction session written action) = session
 
 abbrev pub session_of : MemoryHost → Option Notes
 session_of (Open service) = session_in service
@@ -67,7 +67,7 @@ session_of (Closed closed) = closed.session
 -- a transaction is open
 abbrev pub HasInside : MemoryService → Type 0
 HasInside (AtRest store session) = ⊥
-HasInside (InTransaction transaction session written) = Unit {0}
+HasInside (InTransaction transaction session written action) = Unit {0}
 
 abbrev pub HasTransaction : MemoryHost → Type 0
 HasTransaction (Open service) = HasInside service
@@ -95,7 +95,7 @@ pub record IsOpenedIn (image : Image) (store : MemoryStore) : Type 0 where
 -- a service is over the store that is opened in the files, with the session of the host
 abbrev pub Opens : ClosedStore → MemoryService → Type 0
 Opens closed (AtRest store session) = IsOpenedIn (image_of closed.files) store × (session ≡ closed.session)
-Opens closed (InTransaction transaction session written) = ⊥
+Opens closed (InTransaction transaction session written action) = ⊥
 
 -- the store of a service is closed: its files hold the tables that last of it
 pub record Closes (service : MemoryService) (closed : ClosedStore) : Type 0 where

@@ -14,14 +14,16 @@ use Rattle.cs_calls_requests.specs.declared.call.Call.{Call}
 use Rattle.cs_calls_requests.specs.declared.call.Call.TheVariants as call
 use Rattle.cs_calls_parts.specs.declared.fault.CallFaultKind.TheVariants.{ExtraBytes}
 use Rattle.cs_calls_requests.specs.declared.kind.Kind.{Kind}
-use Rattle.cs_calls_requests.specs.declared.kind.Kind.TheVariants.{Plain, OfTable, OfRow, Declare, Rows, Update, Apply, ApplyChosen, Rehearse, Revert}
+use Rattle.cs_calls_requests.specs.declared.kind.Kind.TheVariants.{Plain, OfTable, OfRow, OfLimit, Declare, Rows, Update, Apply, ApplyChosen, Rehearse, Revert, BeginAction}
 use Rattle.cs_calls_requests.specs.declared.kind.PlainKind.{PlainKind}
 use Rattle.cs_calls_requests.specs.declared.kind.PlainKind.TheVariants as plain
 use Rattle.cs_calls_requests.specs.declared.kind.TableKind.{TableKind}
 use Rattle.cs_calls_requests.specs.declared.kind.TableKind.TheVariants as table
 use Rattle.cs_calls_requests.specs.declared.kind.RowKind.{RowKind}
 use Rattle.cs_calls_requests.specs.declared.kind.RowKind.TheVariants as row
-use Rattle.cs_calls_requests.specs.Kinds.{kinds, kind_at, number_of as call_number, plain_call, table_call, row_call}
+use Rattle.cs_calls_requests.specs.declared.kind.LimitKind.{LimitKind}
+use Rattle.cs_calls_requests.specs.declared.kind.LimitKind.TheVariants as limit
+use Rattle.cs_calls_requests.specs.Kinds.{kinds, kind_at, number_of as call_number, plain_call, table_call, row_call, limit_call}
 use Rattle.cs_calls_parts.specs.Spelling.{ChosenCounts, IsChosen, IsText, IsFile, IsList, IsColumn, chosen_bytes, list_bytes, row_bytes, option_bytes, column_bytes, noop_bytes, policy_bytes}
 use Rattle.cs_calls_requests.specs.Laws.{CallBytes}
 use Rattle.cs_calls_requests.specs.Spelling.{HasCounts, IsCall, parts_of, call_bytes}
@@ -61,7 +63,7 @@ plain_parts plain.Undo = (refl, tt)
 plain_parts plain.CloseSession = (refl, tt)
 plain_parts plain.Limits = (refl, tt)
 
--- a call that names a table has no other part
+-- a call that names a table or a history has no other part
 record IsOfTable (kind : TableKind) (name : List ℕ) : Type 0 where
   parts : parts_of (table_call kind name) ≡ counted name
   is : IsText name → IsCall (table_call kind name)
@@ -72,6 +74,9 @@ unfolding parts_of table_call IsCall call_number kind_number
 of_table table.Schema name = record { parts = refl; is = λ t. t; numbered = refl }
 of_table table.Count name = record { parts = refl; is = λ t. t; numbered = refl }
 of_table table.Attach name = record { parts = refl; is = λ t. t; numbered = refl }
+of_table table.OpenHistory name = record { parts = refl; is = λ t. t; numbered = refl }
+of_table table.UndoAction name = record { parts = refl; is = λ t. t; numbered = refl }
+of_table table.RedoAction name = record { parts = refl; is = λ t. t; numbered = refl }
 
 -- a call that has a row or a key of a table has its name and the values
 record IsOfRow (kind : RowKind) (name : List ℕ) (values : List OwnedValue) : Type 0 where
@@ -85,6 +90,17 @@ of_row row.Get name values = record { parts = refl; is = λ t r. (t, r); numbere
 of_row row.Insert name values = record { parts = refl; is = λ t r. (t, r); numbered = refl }
 of_row row.Delete name values = record { parts = refl; is = λ t r. (t, r); numbered = refl }
 of_row row.Put name values = record { parts = refl; is = λ t r. (t, r); numbered = refl }
+
+-- a call that has a limit of a history has its name and the limit
+record IsOfLimit (kind : LimitKind) (name : List ℕ) (most : ℕ) : Type 0 where
+  parts : parts_of (limit_call kind name most) ≡ counted name ++ varint most
+  is : IsText name → most ≤ MAX_CONTENT_LEN → IsCall (limit_call kind name most)
+  numbered : call_number (limit_call kind name most) ≡ kind_number (OfLimit kind)
+
+of_limit : (kind : LimitKind) (name : List ℕ) (most : ℕ) → IsOfLimit kind name most
+unfolding parts_of limit_call IsCall call_number kind_number
+of_limit limit.KeepActions name most = record { parts = refl; is = λ t l. (t, l); numbered = refl }
+of_limit limit.KeepBytes name most = record { parts = refl; is = λ t l. (t, l); numbered = refl }
 
 -- ---- what is read is spelled so
 
@@ -102,6 +118,11 @@ call_takes (OfRow kind) bytes c rest fits e =
     let b = step (IsList IsValue) row_bytes row_of codec_row (λ row. Ok (row_call kind a.value row.0, row.1)) a.rest (c, rest) a.takes.are_bytes a.goes_on in
     let p = of_row kind a.value b.value in
     taken (OfRow kind) bytes (row_call kind a.value b.value) b.rest c rest (record { takes = rw p.parts (Takes-then bytes (counted a.value) a.rest (row_bytes b.value) b.rest a.takes b.takes); is = p.is a.is b.is; numbered = p.numbered }) b.goes_on
+call_takes (OfLimit kind) bytes c rest fits e =
+    let a = step IsText counted text_of codec_text (λ name. number_of name.1 >>= λ limit. Ok (limit_call kind name.0 limit.0, limit.1)) bytes (c, rest) fits e in
+    let b = step (λ n. n ≤ MAX_CONTENT_LEN) varint number_of codec_number (λ limit. Ok (limit_call kind a.value limit.0, limit.1)) a.rest (c, rest) a.takes.are_bytes a.goes_on in
+    let p = of_limit kind a.value b.value in
+    taken (OfLimit kind) bytes (limit_call kind a.value b.value) b.rest c rest (record { takes = rw p.parts (Takes-then bytes (counted a.value) a.rest (varint b.value) b.rest a.takes b.takes); is = p.is a.is b.is; numbered = p.numbered }) b.goes_on
 call_takes Declare bytes c rest fits e =
     let a = step IsText counted text_of codec_text (λ name. list_of column_of name.1 >>= λ columns. Ok (call.Declare name.0 columns.0, columns.1)) bytes (c, rest) fits e in
     let b = step (IsList IsColumn) (list_bytes column_bytes) (list_of column_of) (codec_list IsColumn column_bytes column_of codec_column) (λ columns. Ok (call.Declare a.value columns.0, columns.1)) a.rest (c, rest) a.takes.are_bytes a.goes_on in
@@ -137,6 +158,10 @@ call_takes Rehearse bytes c rest fits e =
 call_takes Revert bytes c rest fits e =
     let a = step IsFile counted counted_of codec_counted (λ file. Ok (call.Revert file.0, file.1)) bytes (c, rest) fits e in
     taken Revert bytes (call.Revert a.value) a.rest c rest (record { takes = a.takes; is = a.is; numbered = refl {a = 17} }) a.goes_on
+call_takes BeginAction bytes c rest fits e =
+    let a = step IsText counted text_of codec_text (λ name. text_of name.1 >>= λ label. Ok (call.BeginAction name.0 label.0, label.1)) bytes (c, rest) fits e in
+    let b = step IsText counted text_of codec_text (λ label. Ok (call.BeginAction a.value label.0, label.1)) a.rest (c, rest) a.takes.are_bytes a.goes_on in
+    taken BeginAction bytes (call.BeginAction a.value b.value) b.rest c rest (record { takes = Takes-then bytes (counted a.value) a.rest (counted b.value) b.rest a.takes b.takes; is = (a.is, b.is); numbered = refl {a = 26} }) b.goes_on
 
 numbered_takes : (number : ℕ) (bytes : List ℕ) (kind : Option Kind) (c : Call) (rest : List ℕ) → AreBytes bytes → kind_at number ≡ kind → call_by kind bytes ≡ Ok (c, rest) → IsCall c × (number ∷ bytes ≡ call_bytes c ++ rest)
 unfolding call_by
@@ -168,7 +193,7 @@ regrouped : (a b c rest : List ℕ) → (a ++ b ++ c) ++ rest ≡ a ++ (b ++ (c 
 regrouped a b c rest = append_assoc (a ++ b) c rest ∙ append_assoc a b (c ++ rest)
 
 call_again : (c : Call) (rest : List ℕ) → IsCall c → call_at (call_bytes c ++ rest) ≡ Ok (c, rest)
-unfolding call_at call_by kind_at kinds call_number parts_of call_of plain_call table_call row_call IsCall
+unfolding call_at call_by kind_at kinds call_number parts_of call_of plain_call table_call row_call limit_call IsCall
 call_again call.Tables rest is = refl
 call_again (call.Schema name) rest is = rw (codec_text.again name rest is) refl
 call_again (call.Declare name columns) rest is =
@@ -223,6 +248,12 @@ call_again call.IsEmpty rest is = refl
 call_again call.Undo rest is = refl
 call_again call.CloseSession rest is = refl
 call_again call.Limits rest is = refl
+call_again (call.OpenHistory name) rest is = rw (codec_text.again name rest is) refl
+call_again (call.BeginAction name label) rest is = rw (append_assoc (counted name) (counted label) rest, codec_text.again name (counted label ++ rest) is.0, codec_text.again label rest is.1) refl
+call_again (call.UndoAction name) rest is = rw (codec_text.again name rest is) refl
+call_again (call.RedoAction name) rest is = rw (codec_text.again name rest is) refl
+call_again (call.KeepActions name limit) rest is = rw (append_assoc (counted name) (varint limit) rest, codec_text.again name (varint limit ++ rest) is.0, codec_number.again limit rest is.1) refl
+call_again (call.KeepBytes name limit) rest is = rw (append_assoc (counted name) (varint limit) rest, codec_text.again name (varint limit ++ rest) is.0, codec_number.again limit rest is.1) refl
 
 pub whole_again : (c : Call) → IsCall c → whole_call (call_bytes c) ≡ Ok c
 unfolding whole_call
@@ -265,3 +296,9 @@ call_counts call.IsEmpty is = tt
 call_counts call.Undo is = tt
 call_counts call.CloseSession is = tt
 call_counts call.Limits is = tt
+call_counts (call.OpenHistory name) is = tt
+call_counts (call.BeginAction name label) is = tt
+call_counts (call.UndoAction name) is = tt
+call_counts (call.RedoAction name) is = tt
+call_counts (call.KeepActions name limit) is = is.1
+call_counts (call.KeepBytes name limit) is = is.1

@@ -8,8 +8,8 @@ use Rattle.cs_calls_parts.specs.declared.fault.CallFault.{CallFault}
 use Rattle.cs_calls_parts.specs.declared.fault.CallFaultKind.TheVariants.{Field, UnknownCall, ExtraBytes}
 use Rattle.cs_calls_parts.specs.declared.fault.Misread.{Misread}
 use Rattle.cs_calls_requests.specs.declared.kind.Kind.{Kind}
-use Rattle.cs_calls_requests.specs.declared.kind.Kind.TheVariants.{Plain, OfTable, OfRow, Declare, Rows, Update, Apply, ApplyChosen, Rehearse, Revert}
-use Rattle.cs_calls_requests.specs.Kinds.{kind_at, plain_call, table_call, row_call}
+use Rattle.cs_calls_requests.specs.declared.kind.Kind.TheVariants.{Plain, OfTable, OfRow, OfLimit, Declare, Rows, Update, Apply, ApplyChosen, Rehearse, Revert, BeginAction}
+use Rattle.cs_calls_requests.specs.Kinds.{kind_at, plain_call, table_call, row_call, limit_call}
 use Rattle.cs_calls_parts.specs.Reading.{chosen_of, column_of, counted_of, list_of, misread, noop_of, number_of, option_of, placed, policy_of, row_of, text_of, ◌>>=◌}
 
 -- the call of a kind
@@ -22,6 +22,10 @@ call_of (OfRow kind) bytes = do
   name ← text_of bytes
   row ← row_of name.1
   Ok (row_call kind name.0 row.0, row.1)
+call_of (OfLimit kind) bytes = do
+  name ← text_of bytes
+  limit ← number_of name.1
+  Ok (limit_call kind name.0 limit.0, limit.1)
 call_of Declare bytes = do
   name ← text_of bytes
   columns ← list_of column_of name.1
@@ -53,6 +57,10 @@ call_of Rehearse bytes = do
 call_of Revert bytes = do
   file ← counted_of bytes
   Ok (call.Revert file.0, file.1)
+call_of BeginAction bytes = do
+  name ← text_of bytes
+  label ← text_of name.1
+  Ok (call.BeginAction name.0 label.0, label.1)
 
 -- the call of a kind, where there is one, after its number
 unfoldable pub call_by : Option Kind → List ℕ → Result (Call × List ℕ) Misread

@@ -34,6 +34,12 @@ parts_of call.IsEmpty = []
 parts_of call.Undo = []
 parts_of call.CloseSession = []
 parts_of call.Limits = []
+parts_of (call.OpenHistory name) = counted name
+parts_of (call.BeginAction name label) = counted name ++ counted label
+parts_of (call.UndoAction name) = counted name
+parts_of (call.RedoAction name) = counted name
+parts_of (call.KeepActions name limit) = counted name ++ varint limit
+parts_of (call.KeepBytes name limit) = counted name ++ varint limit
 
 -- the number of a call, and its parts
 abbrev pub call_bytes : Call → List ℕ
@@ -65,6 +71,12 @@ IsCall call.IsEmpty = Unit {0}
 IsCall call.Undo = Unit {0}
 IsCall call.CloseSession = Unit {0}
 IsCall call.Limits = Unit {0}
+IsCall (call.OpenHistory name) = IsText name
+IsCall (call.BeginAction name label) = IsText name × IsText label
+IsCall (call.UndoAction name) = IsText name
+IsCall (call.RedoAction name) = IsText name
+IsCall (call.KeepActions name limit) = IsText name × (limit ≤ MAX_CONTENT_LEN)
+IsCall (call.KeepBytes name limit) = IsText name × (limit ≤ MAX_CONTENT_LEN)
 
 -- the rows and lists of a call have at most 2147483647 parts, and its limit is at most that
 unfoldable pub HasCounts : Call → Type 0
@@ -92,3 +104,9 @@ HasCounts call.IsEmpty = Unit {0}
 HasCounts call.Undo = Unit {0}
 HasCounts call.CloseSession = Unit {0}
 HasCounts call.Limits = Unit {0}
+HasCounts (call.OpenHistory name) = Unit {0}
+HasCounts (call.BeginAction name label) = Unit {0}
+HasCounts (call.UndoAction name) = Unit {0}
+HasCounts (call.RedoAction name) = Unit {0}
+HasCounts (call.KeepActions name limit) = limit ≤ MAX_CONTENT_LEN
+HasCounts (call.KeepBytes name limit) = limit ≤ MAX_CONTENT_LEN

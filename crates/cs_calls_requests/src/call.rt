@@ -97,4 +97,31 @@ pub enum Call {
     CloseSession,
     /// Returns the version and the limits of this interface.
     Limits,
+    /// Opens a history: declares its table if no table has the name.
+    OpenHistory {
+        history: Text,
+    },
+    /// Begins a transaction that is an action of a history.
+    BeginAction {
+        history: Text,
+        label: Text,
+    },
+    /// Undoes the last action of a history that is done.
+    UndoAction {
+        history: Text,
+    },
+    /// Redoes the action of a history that was undone last.
+    RedoAction {
+        history: Text,
+    },
+    /// Drops the oldest actions of a history that are done, so that at most so many are left.
+    KeepActions {
+        history: Text,
+        limit: u32,
+    },
+    /// Drops the oldest actions of a history that are done, so that their changesets have at most so many bytes.
+    KeepBytes {
+        history: Text,
+        limit: u32,
+    },
 }

@@ -9,10 +9,12 @@ use crate::call::Call;
 pub(crate) enum Kind {
     /// Nothing.
     Plain(PlainKind),
-    /// The name of a table.
+    /// The name of a table or a history.
     OfTable(TableKind),
     /// The name of a table, and a row or a key.
     OfRow(RowKind),
+    /// The name of a history, and a limit.
+    OfLimit(LimitKind),
     Declare,
     Rows,
     Update,
@@ -20,6 +22,7 @@ pub(crate) enum Kind {
     ApplyChosen,
     Rehearse,
     Revert,
+    BeginAction,
 }
 
 /// The calls without parts.
@@ -37,12 +40,15 @@ pub(crate) enum PlainKind {
     Limits,
 }
 
-/// The calls that name a table, and have no other part.
+/// The calls that name a table or a history, and have no other part.
 #[derive(Clone, Copy)]
 pub(crate) enum TableKind {
     Schema,
     Count,
     Attach,
+    OpenHistory,
+    UndoAction,
+    RedoAction,
 }
 
 /// The calls that have a row or a key of a table, and no other part.
@@ -54,8 +60,15 @@ pub(crate) enum RowKind {
     Put,
 }
 
+/// The calls that have a limit of a history, and no other part.
+#[derive(Clone, Copy)]
+pub(crate) enum LimitKind {
+    KeepActions,
+    KeepBytes,
+}
+
 /// The kinds of calls, by their numbers less one.
-const KINDS: [Kind; 24] = [
+const KINDS: [Kind; 30] = [
     Kind::Plain(PlainKind::Tables),
     Kind::OfTable(TableKind::Schema),
     Kind::Declare,
@@ -80,6 +93,12 @@ const KINDS: [Kind; 24] = [
     Kind::Plain(PlainKind::Undo),
     Kind::Plain(PlainKind::CloseSession),
     Kind::Plain(PlainKind::Limits),
+    Kind::OfTable(TableKind::OpenHistory),
+    Kind::BeginAction,
+    Kind::OfTable(TableKind::UndoAction),
+    Kind::OfTable(TableKind::RedoAction),
+    Kind::OfLimit(LimitKind::KeepActions),
+    Kind::OfLimit(LimitKind::KeepBytes),
 ];
 
 impl Kind {
@@ -153,5 +172,11 @@ pub(crate) fn number(call: &Call) -> u8
         Call::Undo => 22,
         Call::CloseSession => 23,
         Call::Limits => 24,
+        Call::OpenHistory { .. } => 25,
+        Call::BeginAction { .. } => 26,
+        Call::UndoAction { .. } => 27,
+        Call::RedoAction { .. } => 28,
+        Call::KeepActions { .. } => 29,
+        Call::KeepBytes { .. } => 30,
     }
 }

@@ -1,14 +1,14 @@
 //! Calls, read from their bytes.
 ghost use Rattle.std.specs.Prelude.{◌≡◌, IfOk, Ok};
 ghost use Rattle.cs_calls_requests.specs.declared.call.Call.{Call as CallData};
-ghost use Rattle.cs_calls_requests.specs.declared.kind.Kind.TheVariants.{OfTable, OfRow, Declare, Rows as RowsKind, Update as UpdateKind, Apply as ApplyKind, ApplyChosen as ApplyChosenKind, Rehearse as RehearseKind, Revert as RevertKind};
-ghost use Rattle.cs_calls_requests.specs.Kinds.{table_call as table_call_of, row_call as row_call_of};
+ghost use Rattle.cs_calls_requests.specs.declared.kind.Kind.TheVariants.{OfTable, OfRow, OfLimit, Declare, Rows as RowsKind, Update as UpdateKind, Apply as ApplyKind, ApplyChosen as ApplyChosenKind, Rehearse as RehearseKind, Revert as RevertKind, BeginAction as BeginActionKind};
+ghost use Rattle.cs_calls_requests.specs.Kinds.{table_call as table_call_of, row_call as row_call_of, limit_call as limit_call_of};
 ghost use Rattle.cs_calls_requests.specs.Spelling.{IsCall, HasCounts, call_bytes};
 ghost use Rattle.cs_calls_parts.specs.Reading.{Gives};
 ghost use Rattle.cs_calls_requests.specs.Reading.{call_of, call_at, call_in, whole_call};
 
 use crate::call::Call;
-use crate::kind::{Kind, RowKind, TableKind};
+use crate::kind::{Kind, LimitKind, RowKind, TableKind};
 use cs_calls_parts::{
     CallError, CallFaultKind, Choices, Columns, Unread, read_count, read_file, read_list,
     read_noop, read_option, read_policy, read_row, read_text, refuse,
@@ -72,6 +72,7 @@ fn read_call(alloc: Global, kind: Kind, bytes: &[u8]) -> Result<(Call, &[u8]), U
         Kind::Plain(kind) => Ok((kind.call(), bytes)),
         Kind::OfTable(kind) => read_table(alloc, kind, bytes),
         Kind::OfRow(kind) => read_of_row(alloc, kind, bytes),
+        Kind::OfLimit(kind) => read_of_limit(alloc, kind, bytes),
         Kind::Declare => read_declare(alloc, bytes),
         Kind::Rows => read_rows(alloc, bytes),
         Kind::Update => read_update(alloc, bytes),
@@ -79,18 +80,22 @@ fn read_call(alloc: Global, kind: Kind, bytes: &[u8]) -> Result<(Call, &[u8]), U
         Kind::ApplyChosen => read_apply_chosen(alloc, bytes),
         Kind::Rehearse => read_rehearse(alloc, bytes),
         Kind::Revert => read_revert(alloc, bytes),
+        Kind::BeginAction => read_begin_action(alloc, bytes),
     }
 }
 
-/// Returns the call that names a table.
+/// Returns the call that names a table or a history.
 #[tactic(auto, unfolding(crate::specs::Kinds::table_call))]
-fn table_call(kind: TableKind, table: Text) -> Call
-    ensures { result ≡ table_call_of kind table }
+fn table_call(kind: TableKind, name: Text) -> Call
+    ensures { result ≡ table_call_of kind name }
 {
     match kind {
-        TableKind::Schema => Call::Schema { table },
-        TableKind::Count => Call::Count { table },
-        TableKind::Attach => Call::Attach { table },
+        TableKind::Schema => Call::Schema { table: name },
+        TableKind::Count => Call::Count { table: name },
+        TableKind::Attach => Call::Attach { table: name },
+        TableKind::OpenHistory => Call::OpenHistory { history: name },
+        TableKind::UndoAction => Call::UndoAction { history: name },
+        TableKind::RedoAction => Call::RedoAction { history: name },
     }
 }
 
@@ -107,13 +112,24 @@ fn row_call(kind: RowKind, table: Text, row: Row) -> Call
     }
 }
 
-/// Reads the parts of a call that names a table.
+/// Returns the call that has a limit of a history.
+#[tactic(auto, unfolding(crate::specs::Kinds::limit_call))]
+fn limit_call(kind: LimitKind, history: Text, limit: u32) -> Call
+    ensures { result ≡ limit_call_of kind history limit }
+{
+    match kind {
+        LimitKind::KeepActions => Call::KeepActions { history, limit },
+        LimitKind::KeepBytes => Call::KeepBytes { history, limit },
+    }
+}
+
+/// Reads the parts of a call that names a table or a history.
 #[tactic(auto, unfolding(crate::specs::Reading::call_of))]
 fn read_table(alloc: Global, kind: TableKind, bytes: &[u8]) -> Result<(Call, &[u8]), Unread>
     ensures { Gives (λ r. (r.0, r.1.now)) result (call_of (OfTable kind) bytes.now) }
 {
-    let (table, rest) = read_text(alloc, bytes)?;
-    Ok((table_call(kind, table), rest))
+    let (name, rest) = read_text(alloc, bytes)?;
+    Ok((table_call(kind, name), rest))
 }
 
 /// Reads the parts of a call that has a row or a key of a table.
@@ -124,6 +140,16 @@ fn read_of_row(alloc: Global, kind: RowKind, bytes: &[u8]) -> Result<(Call, &[u8
     let (table, rest) = read_text(alloc, bytes)?;
     let (row, rest) = read_row(alloc, rest)?;
     Ok((row_call(kind, table, row), rest))
+}
+
+/// Reads the parts of a call that has a limit of a history.
+#[tactic(auto, unfolding(crate::specs::Reading::call_of))]
+fn read_of_limit(alloc: Global, kind: LimitKind, bytes: &[u8]) -> Result<(Call, &[u8]), Unread>
+    ensures { Gives (λ r. (r.0, r.1.now)) result (call_of (OfLimit kind) bytes.now) }
+{
+    let (history, rest) = read_text(alloc, bytes)?;
+    let (limit, rest) = read_count(rest)?;
+    Ok((limit_call(kind, history, limit), rest))
 }
 
 /// Reads the parts of the declaration of a table.
@@ -208,4 +234,14 @@ fn read_revert(alloc: Global, bytes: &[u8]) -> Result<(Call, &[u8]), Unread>
 {
     let (file, rest) = read_file(alloc, bytes)?;
     Ok((Call::Revert { file }, rest))
+}
+
+/// Reads the parts of the beginning of an action.
+#[tactic(auto, unfolding(crate::specs::Reading::call_of))]
+fn read_begin_action(alloc: Global, bytes: &[u8]) -> Result<(Call, &[u8]), Unread>
+    ensures { Gives (λ r. (r.0, r.1.now)) result (call_of BeginActionKind bytes.now) }
+{
+    let (history, rest) = read_text(alloc, bytes)?;
+    let (label, rest) = read_text(alloc, rest)?;
+    Ok((Call::BeginAction { history, label }, rest))
 }

@@ -1,4 +1,5 @@
 mod AloneLemmas
+mod HistoryLemmas
 mod NotedLemmas
 mod ServiceLemmas
 mod SessionLemmas

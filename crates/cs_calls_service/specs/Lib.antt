@@ -1,5 +1,6 @@
 pub mod Noting
 pub mod Sessions
+pub mod Histories
 pub mod Service
 pub use Rattle.cs_calls_executor.specs.Calls
 pub use Rattle.cs_session_notes.specs.FirstImages

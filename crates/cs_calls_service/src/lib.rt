@@ -8,13 +8,16 @@
 //! ```
 //!
 //! `service` has the service, and the transactions of its host. `carrying` carries out calls on tables and notes what
-//! they write, and `sessions` has the calls of a session. `refusal` has why sessions refuse.
+//! they write, `sessions` has the calls of a session, and `histories` those of a history. `refusal` has why sessions
+//! refuse.
 #![tactic(auto)]
 
 mod carrying;
+mod histories;
 mod refusal;
 mod service;
 mod sessions;
 
-pub use service::Service;
+pub use cs_history::HistoryCall;
+pub use service::{Action, Service};
 pub use sessions::SessionCall;

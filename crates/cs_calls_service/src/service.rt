@@ -6,17 +6,19 @@ ghost use Rattle.cs_calls_answers.specs.Refusals.{out_of_memory};
 ghost use Rattle.cs_calls_answers.specs.Spelling.{answer_bytes};
 ghost use Rattle.cs_session_notes.specs.Merging.{unwritten as without_writes};
 ghost use Rattle.cs_calls_service.specs.declared.service.Service.TheVariants.{AtRest as RestingService};
-ghost use Rattle.cs_calls_service.specs.Service.{Begins, CarriesCall, CarriesSessionCall, Commits, EndsNoted, RollsBack, Undoes, notes_in};
+ghost use Rattle.cs_calls_service.specs.Service.{Begins, BeginsAction, CallsHistory, CarriesCall, CarriesSessionCall, Commits, EndsNoted, RollsBack, Undoes, notes_in};
 
 use crate::carrying::{carry_noted, carry_out_alone};
+use crate::histories::{begin_watched, call_alone, commit_action};
 use crate::refusal::session_refusal;
 use crate::sessions::{SessionCall, carry_session, undo_alone};
 use cs_calls_answers::{Answer, Refused};
 use cs_calls_conversions::store_refusal;
 use cs_calls_executor::{TableCall, bytes_of};
+use cs_history::HistoryCall;
 use cs_session::Session;
 use cs_store::{Store, Transaction};
-use cs_value::NoMemory;
+use cs_value::{NoMemory, Text};
 use sqlite::Alter;
 use std::alloc::Global;
 
@@ -32,13 +34,23 @@ pub enum Service<S: Alter> {
     InTransaction {
         transaction: Transaction<S>,
         session: Option<Session>,
-        /// What the transaction wrote to the tables of the session.
+        /// What the transaction wrote to the tables of the session, or to those that the history of the action watches.
         written: Session,
+        /// The action of a history that the transaction is, if it is one. No session is open then.
+        action: Option<Action>,
     },
 }
 
+/// An action of a history.
+#[derive(Drop)]
+pub struct Action {
+    /// The name of the history's table.
+    pub history: Text,
+    pub label: Text,
+}
+
 /// Returns the bytes of the answer *done*.
-fn done(alloc: Global) -> Result<Vec<u8>, Refused>
+pub(crate) fn done(alloc: Global) -> Result<Vec<u8>, Refused>
     ensures ok { IfOk result (λ bytes. bytes.items ≡ answer_bytes DoneAnswer) }
     ensures err { IfErr result (λ why. why ≡ out_of_memory) }
 {
@@ -148,6 +160,7 @@ impl<S: Alter + Drop> Service<S> {
                     transaction,
                     session,
                     written,
+                    action: None,
                 };
                 (service, Ok(done))
             }
@@ -160,7 +173,84 @@ impl<S: Alter + Drop> Service<S> {
         }
     }
 
-    /// Commits the transaction. The session then notes what was written in it.
+    /// Begins a transaction that is an action of a history. Its commit notes what was written to all tables but
+    /// histories, and then an undo of the history takes the action back.
+    ///
+    /// # Errors
+    ///
+    /// 95 TransactionOpen if a transaction was begun, and 65 SessionOpen while a session is open. 100 NotHistory if the
+    /// table is not a history. 37 DamagedStore if what is stored is damaged, 38 StoreFault if the database refuses, and
+    /// 60 NoMemory if out of memory. None is begun then.
+    pub fn begin_action(
+        self,
+        alloc: Global,
+        action: Action,
+    ) -> (Service<S>, Result<Vec<u8>, Refused>)
+        ensures { BeginsAction S.Store self action result.1 result.0 }
+    {
+        let Service::AtRest { store, session } = self else {
+            return (self, Err(Refused::plain(95)));
+        };
+        if session.is_some() {
+            return (Service::AtRest { store, session }, Err(Refused::plain(65)));
+        }
+        match begin_watched(alloc, store, &action.history) {
+            Ok((transaction, written, done)) => {
+                let service = Service::InTransaction {
+                    transaction,
+                    session: None,
+                    written,
+                    action: Some(action),
+                };
+                (service, Ok(done))
+            }
+            Err((why, store)) => (
+                Service::AtRest {
+                    store,
+                    session: None,
+                },
+                Err(why),
+            ),
+        }
+    }
+
+    /// Carries out a call of a history in a transaction of its own.
+    ///
+    /// # Errors
+    ///
+    /// 95 TransactionOpen while a transaction is open, and 65 SessionOpen while a session is. 100 NotHistory if the
+    /// table is not a history, and 32 BadSchema if it is to be declared and no table can have the name. 101 NothingLeft
+    /// if no action is left to undo or to redo. 41 Abort with the first conflict if rows were changed since the action,
+    /// and 40 Wider if a table has more columns now. 102 DamagedHistory if another program has changed the row of the
+    /// action, and 103 HistoryFull if no number is left for it. 37 DamagedStore if what is stored is damaged, 38
+    /// StoreFault if the database refuses, and 60 NoMemory if out of memory. Nothing has changed then. If the disk fails
+    /// within the commit, the file has the tables from before or those after it.
+    pub fn call_history(
+        self,
+        alloc: Global,
+        history: &Text,
+        call: HistoryCall,
+    ) -> (Service<S>, Result<Vec<u8>, Refused>)
+        ensures { CallsHistory S.Store self history.now call result.1 result.0 }
+    {
+        let Service::AtRest { store, session } = self else {
+            return (self, Err(Refused::plain(95)));
+        };
+        if session.is_some() {
+            return (Service::AtRest { store, session }, Err(Refused::plain(65)));
+        }
+        let (store, result) = call_alone(alloc, store, history, call);
+        (
+            Service::AtRest {
+                store,
+                session: None,
+            },
+            result,
+        )
+    }
+
+    /// Commits the transaction. The session then notes what was written in it. If it is an action, its changes are noted
+    /// in its history, if there are any, and what was undone before is forgotten.
     ///
     /// # Errors
     ///
@@ -175,10 +265,15 @@ impl<S: Alter + Drop> Service<S> {
             transaction,
             session,
             written,
+            action,
         } = self
         else {
             return (self, Err(Refused::plain(96)));
         };
+        if let Some(action) = action {
+            let (store, result) = commit_action(alloc, transaction, &action, &written);
+            return (Service::AtRest { store, session }, result);
+        }
         let (session, is_open) = opened(alloc, session);
         let (store, session, result) = commit_noted(alloc, transaction, session, &written);
         let session = if_open(session, is_open);
@@ -197,6 +292,7 @@ impl<S: Alter + Drop> Service<S> {
             transaction,
             session,
             written,
+            action,
         } = self
         else {
             return (self, Err(Refused::plain(96)));
@@ -211,6 +307,7 @@ impl<S: Alter + Drop> Service<S> {
                     transaction,
                     session,
                     written,
+                    action,
                 };
                 (service, Err(why))
             }
@@ -241,12 +338,14 @@ impl<S: Alter + Drop> Service<S> {
                 mut transaction,
                 session,
                 written,
+                action,
             } => {
                 let (written, result) = carry_noted(alloc, &mut transaction, written, call);
                 let service = Service::InTransaction {
                     transaction,
                     session,
                     written,
+                    action,
                 };
                 (service, result)
             }

@@ -1,9 +1,11 @@
 pub mod Stored
 pub mod Actions
+pub mod Calls
 pub mod Moving
 pub mod Carrying
 pub mod Runs
 pub mod Faults
+pub mod Watching
 pub use Rattle.cs_value.specs.State
 pub use Rattle.cs_apply_engine.specs.Running
 pub use Rattle.cs_session_notes.specs.FirstImages

@@ -35,6 +35,12 @@ const CALLS: &[(&str, &[u8])] = &[
     ("undo", b"\x16"),
     ("close session", b"\x17"),
     ("limits", b"\x18"),
+    ("open history", b"\x19\x01h"),
+    ("begin action", b"\x1a\x01h\x05typed"),
+    ("undo action", b"\x1b\x01h"),
+    ("redo action", b"\x1c\x01h"),
+    ("keep actions", b"\x1d\x01h\x81\x00"),
+    ("keep bytes", b"\x1e\x01h\x03"),
 ];
 
 /// At most three rows of `notes` after the key 7.
@@ -72,6 +78,12 @@ fn name_of(call: &Call) -> &'static str {
         Call::Undo => "undo",
         Call::CloseSession => "close session",
         Call::Limits => "limits",
+        Call::OpenHistory { .. } => "open history",
+        Call::BeginAction { .. } => "begin action",
+        Call::UndoAction { .. } => "undo action",
+        Call::RedoAction { .. } => "redo action",
+        Call::KeepActions { .. } => "keep actions",
+        Call::KeepBytes { .. } => "keep bytes",
     }
 }
 
@@ -113,6 +125,11 @@ fn has_its_parts(call: &Call) -> bool {
                     && first.conflict.current.is_none() && second.choice == Choice::Omit
                     && second.conflict.current.is_some())
         }
+        Call::BeginAction { history, label } => {
+            history.as_str() == "h" && label.as_str() == "typed"
+        }
+        Call::KeepActions { limit, .. } => *limit == 128,
+        Call::KeepBytes { limit, .. } => *limit == 3,
         _ => true,
     }
 }
@@ -129,7 +146,7 @@ fn reads_the_parts_in_their_order(rt: HostRuntime) {
 const FAULTS: &[(&[u8], u8, usize)] = &[
     (b"", 1, 0),
     (b"\x00", 91, 0),
-    (b"\x19", 91, 0),
+    (b"\x1f", 91, 0),
     (b"\xff\x01", 91, 0),
     (b"\x01\x00", 92, 1),
     (b"\x02", 1, 1),
@@ -157,6 +174,12 @@ const FAULTS: &[(&[u8], u8, usize)] = &[
         90,
         18,
     ),
+    (b"\x19", 1, 1),
+    (b"\x1a\x01h", 1, 3),
+    (b"\x1a\x01h\x01\xff", 14, 4),
+    (b"\x1d\x01h", 1, 3),
+    (b"\x1e\x01h\x80\x01", 4, 3),
+    (b"\x1e\x01h\x03\x00", 92, 4),
     // The first part that cannot be read decides.
     (b"\x05\x01t\x01\x02\x05\x03\x88\x80\x80\x80\x00\x03", 4, 7),
     (b"\x02\x88\x80\x80\x80", 1, 5),

@@ -46,6 +46,12 @@ pub(super) enum Number {
     IsEmpty = 21,
     Undo = 22,
     CloseSession = 23,
+    OpenHistory = 25,
+    BeginAction = 26,
+    UndoAction = 27,
+    RedoAction = 28,
+    KeepActions = 29,
+    KeepBytes = 30,
 }
 
 /// The bytes of a call, to which parts are added. Each addition fails with `NoMemory`, and with

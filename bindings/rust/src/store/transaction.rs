@@ -3,7 +3,7 @@
 use std::ops::{Deref, DerefMut};
 
 use super::answers;
-use super::calls::Number;
+use super::calls::{Call, Number};
 use super::{Store, StoreError};
 
 /// A transaction, from [`Store::transaction`]. It has the calls of the [`Store`], which see what it
@@ -32,7 +32,12 @@ pub struct Transaction<'s> {
 impl<'s> Transaction<'s> {
     /// Begins a transaction.
     pub(super) fn begin(store: &'s mut Store) -> Result<Self, StoreError> {
-        store.ask_only(Number::Begin, &answers::DONE)?;
+        Self::begin_by(store, Call::new(Number::Begin)?)
+    }
+
+    /// Begins a transaction by a call.
+    pub(super) fn begin_by(store: &'s mut Store, call: Call) -> Result<Self, StoreError> {
+        store.ask(call, &answers::DONE)?;
         Ok(Self {
             store,
             is_committed: false,

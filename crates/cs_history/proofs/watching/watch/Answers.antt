@@ -1,0 +1,2 @@
+-- `watching::watch`: what it ensures.
+use Rattle.cs_history.proofs.watching.watch.Goals as goal
