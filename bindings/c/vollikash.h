@@ -35,7 +35,7 @@
 ** allocate at most some hundred times the bytes of all files and four kilobytes, and so
 ** much only for tables of one change. bindings/c/memory.c measures both. A call frees all
 ** of it before it returns, but a group keeps what it has until vollikash_group_close. A
-** store keeps until vollikash_store_close: eight megabytes for pages, its file and the
+** store keeps until vollikash_store_close: two megabytes for pages, its file and the
 ** log, the last answer, and the rows that a session has noted.
 ** vollikash_next, vollikash_value, vollikash_values and vollikash_message allocate
 ** nothing. A text is made in memory first, and grows with the length of a table's name

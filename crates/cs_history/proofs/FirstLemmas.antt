@@ -18,7 +18,7 @@ use Rattle.cs_store_sql.specs.Records.{is_above}
 use Rattle.cs_store_tables.specs.Pages.{page_in}
 use Rattle.cs_history.specs.Stored.{IsHistory, history_schema, is_of, last_undone, rows_of}
 use Rattle.cs_history.specs.Moving.{first_in, first_of, key_of, start_of}
-use Rattle.cs_history.proofs.SideLemmas.{left_of, right_of, first_there}
+use Rattle.cs_history.proofs.SideLemmas.{left_of, right_of, passing, first_there}
 
 abbrev Rows : Type 0
 Rows = List (List ℕ × List OwnedValue)
@@ -43,7 +43,7 @@ other_side false key = at (is_above last_undone key)
 
 -- ---- the first row of a page
 
-after_less : (last x y : List ℕ) → is_above last x ≡ true → slice_cmp nat_cmp x y ≡ Less → is_above last y ≡ true
+pub after_less : (last x y : List ℕ) → is_above last x ≡ true → slice_cmp nat_cmp x y ≡ Less → is_above last y ≡ true
 after_less last x y above less = at (slice_cmp nat_cmp x last) refl above
   where
     at : (o : Ordering) → slice_cmp nat_cmp x last ≡ o → is_gt o ≡ true → is_above last y ≡ true
@@ -54,7 +54,7 @@ after_less last x y above less = at (slice_cmp nat_cmp x last) refl above
         let behind : slice_cmp nat_cmp last y ≡ Less = nat_list_cmp_total.trans last x y before less in
         ap is_gt (nat_list_cmp_total.antisymm y last ∙ ap ordering_reverse behind)
 
-less_of : (o : Ordering) → T (is_lt o) → o ≡ Less
+pub less_of : (o : Ordering) → T (is_lt o) → o ≡ Less
 less_of Less h = refl
 less_of Equal h = absurd h
 less_of Greater h = absurd h
@@ -107,6 +107,10 @@ page_first s name is history false =
     subst (λ (es : Rows). IsFirst false (rows_at s name) (first_row_of es)) (sym (all_kept (entries (rows_at s name))))
     (first_undone (rows_at s name) (own_key s name is history) (entries (rows_at s name)) refl)
 
+pub take_none : {X : Type 0} (xs : List X) → take 0 xs ≡ []
+take_none [] = refl
+take_none (x ∷ xs) = refl
+
 -- what is popped of a page
 pub popped_none : (done : Bool) (rows : RowMap) (page : List (List OwnedValue)) → IsFirst done rows page → page ≡ [] → first_of done rows ≡ None
 popped_none done rows [] it is = it
@@ -128,11 +132,15 @@ pub none_first : (es : Rows) → None ≡ first_in es → es ≡ []
 none_first [] is = refl
 none_first (e ∷ es) is = absurd (none-some e.1 is)
 
--- the first row is that of the first entry
+-- the first row of those whose keys pass is that of the first entry
+pub entry_first : (s : State) (name : List ℕ) → IsState s → IsHistory s name → (p : List ℕ → Bool) (row : List OwnedValue) (es : Rows) → passing p (rows_at s name) ≡ es → Some row ≡ first_in es
+    → (rest : Rows) × (es ≡ (key_of row, row) ∷ rest)
+entry_first s name is history p row [] those is_first = absurd (none-some row (sym is_first))
+entry_first s name is history p row (e ∷ es) those is_first =
+    let same : e.1 ≡ row = cc in
+    let key : e.0 ≡ key_of row = own_key s name is history e.0 e.1 (first_there p (rows_at s name) e.0 e.1 es those).0 ∙ ap key_of same in
+    (es, λ i. (key i, same i) ∷ es)
+
 pub first_entry : (s : State) (name : List ℕ) → IsState s → IsHistory s name → (done : Bool) (row : List OwnedValue) (es : Rows) → rows_of done (rows_at s name) ≡ es → Some row ≡ first_in es
     → (rest : Rows) × (es ≡ (key_of row, row) ∷ rest)
-first_entry s name is history done row [] those is_first = absurd (none-some row (sym is_first))
-first_entry s name is history done row (e ∷ es) those is_first =
-    let same : e.1 ≡ row = cc in
-    let key : e.0 ≡ key_of row = own_key s name is history e.0 e.1 (first_there (is_of done) (rows_at s name) e.0 e.1 es those).0 ∙ ap key_of same in
-    (es, λ i. (key i, same i) ∷ es)
+first_entry s name is history done = entry_first s name is history (is_of done)

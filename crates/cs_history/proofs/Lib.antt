@@ -5,6 +5,7 @@ pub mod FirstLemmas
 pub mod MoveLemmas
 pub mod TurnLemmas
 pub mod ActLemmas
+pub mod ForgetLemmas
 pub mod RunLemmas
 pub mod WorkLemmas
 pub mod FaultLemmas

@@ -79,6 +79,7 @@ module _ (s : State) (name : List ℕ) (is : IsState s) (history : IsHistory s n
       record {
         history = put.schema ∙ history;
         same = put.others;
+        held = put.held;
         done = λ first.
             let entry = first_entry s name is history false row (rows_of false (rows_at s name)) refl first in
             let passes = (first_there (is_of false) (rows_at s name) (key_of row) row entry.0 entry.1).1 in

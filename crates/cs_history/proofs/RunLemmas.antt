@@ -1,11 +1,12 @@
 -- Histories stay sound over a run, and what an undo and a redo restore.
-use Rattle.std.proofs.Common.{◌≡◌, inl, inr, ℕ, true, List, [], ◌∷◌, refl, sym, ap, subst, ◌∙◌}
+use Rattle.std.proofs.Common.{◌≡◌, ◌-◌, inl, inr, ℕ, zero, suc, Bool, true, false, List, [], ◌∷◌, refl, sym, ap, subst, ◌∙◌}
+use Rattle.std.specs.Prelude.{leb, length}
 use Rattle.cs_value.specs.State.{State, RowMap}
 use Rattle.cs_apply_engine.specs.Running.{Leads}
 use Rattle.cs_wire.specs.Laws.{ChangesetFiles}
 use Rattle.cs_history.specs.Stored.{ActionData, actions_of, done_actions, undone_actions}
-use Rattle.cs_history.specs.Actions.{others, Acts, UndoesLast, RedoesNext}
-use Rattle.cs_history.specs.Runs.{LeadsBack, LeadsOn, IsSound, Step, BeginsSound, MovesSound, RunsSound, SameTables, UndoRestores, RedoRestores}
+use Rattle.cs_history.specs.Actions.{others, Acts, UndoesLast, RedoesNext, newest}
+use Rattle.cs_history.specs.Runs.{LeadsBack, LeadsOn, IsSound, Step, BeginsSound, ForgetsSound, MovesSound, RunsSound, SameTables, UndoRestores, RedoRestores}
 use Rattle.cs_history.proofs.ApartLemmas.{leads_once}
 
 module _ (name : List ℕ) (origin : State) where
@@ -61,6 +62,23 @@ moves_sound name origin m action rest sound = (
   λ first. let on = subst (λ (l : List ActionData). LeadsOn name l (others m name)) first sound.undone in
       record { action = action; rest = rest; first = first; reached = on.0; turns = on.1 },
 )
+
+-- the newest actions lead back to where the last of them began
+newest_back : (name : List ℕ) (keep bytes : ℕ) (origin : State) (actions : List ActionData) (now : State) → LeadsBack name origin actions now → (later : State) × LeadsBack name later (newest keep bytes actions) now
+newest_back name keep bytes origin [] now back = (now, refl)
+newest_back name zero bytes origin (action ∷ actions) now back = (now, refl)
+newest_back name (suc keep) bytes origin (action ∷ actions) now back =
+    at (leb (length action.changeset) bytes) refl (newest_back name keep (bytes - length action.changeset) origin actions back.0 back.2)
+  where
+    at : (b : Bool) → leb (length action.changeset) bytes ≡ b → (later : State) × LeadsBack name later (newest keep (bytes - length action.changeset) actions) back.0
+        → (later : State) × LeadsBack name later (newest (suc keep) bytes (action ∷ actions)) now
+    at true fits rest = (rest.0, rw fits (back.0, back.1, rest.1))
+    at false full rest = (now, rw full refl)
+
+pub forgets_sound : ForgetsSound
+forgets_sound name origin m n keep bytes sound it =
+    let back = newest_back name keep bytes origin (done_actions m name) (others m name) sound.done in
+    (back.0, sound_as name back.0 n (others m name) (newest keep bytes (done_actions m name)) (undone_actions m name) it.same it.done it.undone back.1 sound.undone)
 
 pub same_tables : ChangesetFiles → SameTables
 same_tables law name origin m n one two same =

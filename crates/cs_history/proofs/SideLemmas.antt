@@ -51,7 +51,7 @@ module _ {X : Type 0} (p : List ℕ → Bool) where
   abbrev pub passing : ByBytes X → List (List ℕ × X)
   passing m = filter (λ e. p e.0) (entries m)
 
-  sorted : (m : ByBytes X) → T (is_sorted order (passing m))
+  pub sorted : (m : ByBytes X) → T (is_sorted order (passing m))
   sorted m = is_sorted-where_key order p (entries m) (entries_sorted m)
 
   -- they are those of a map

@@ -1,5 +1,5 @@
 -- What the calls of a history do.
-use Rattle.std.specs.Prelude.{◌≡◌, ◌≢◌, ℕ, Bool, true, false, not, List, [], ◌∷◌, All}
+use Rattle.std.specs.Prelude.{◌≡◌, ◌≢◌, ◌-◌, if◌then◌else◌, leb, ℕ, zero, suc, Bool, true, false, not, List, [], ◌∷◌, length, All}
 use Rattle.std.specs.FinMap as map
 use Rattle.cs_value.specs.State.{State, rows_at, schema_at}
 use Rattle.cs_wire.specs.Changeset.{GroupData, file_bytes}
@@ -7,7 +7,7 @@ use Rattle.cs_apply_conflict_kinds.specs.declared.conflict.Noop.TheVariants.{Rep
 use Rattle.cs_apply_engine.specs.declared.running.Direction.TheVariants.{Forward, Inverse}
 use Rattle.cs_apply_engine.specs.Running.{AlwaysAborts, Leads}
 use Rattle.cs_apply.specs.Crash.{AppliesInto}
-use Rattle.cs_history.specs.Stored.{ActionData, actions_of, done_actions, undone_actions}
+use Rattle.cs_history.specs.Stored.{ActionData, IsHistory, actions_of, done_actions, undone_actions}
 
 -- all tables but that of the history
 abbrev pub others : State → List ℕ → State
@@ -81,3 +81,19 @@ UndoesLast = Moves true
 
 abbrev pub RedoesNext : List ℕ → State → State → Type 0
 RedoesNext = Moves false
+
+-- ---- the oldest actions are forgotten
+
+-- the newest of actions, which come first: at most so many, whose changesets have at most so many bytes
+abbrev pub newest : ℕ → ℕ → List ActionData → List ActionData
+newest keep bytes [] = []
+newest zero bytes (action ∷ actions) = []
+newest (suc keep) bytes (action ∷ actions) =
+    if leb (length action.changeset) bytes then action ∷ newest keep (bytes - length action.changeset) actions else []
+
+-- of those that are done only the newest are left, and all else is as it was
+pub record Forgets (keep bytes : ℕ) (name : List ℕ) (old new : State) : Type 0 where
+  pub history : IsHistory new name
+  pub same : others new name ≡ others old name
+  pub done : done_actions new name ≡ newest keep bytes (done_actions old name)
+  pub undone : undone_actions new name ≡ undone_actions old name

@@ -1,4 +1,5 @@
--- What the refusals of the layers below are to a history.
+-- Why a history refuses a call, and what the refusals of the layers below are to it. The numbers are this project's own.
+use Rattle.std.specs.Prelude.{ℕ, List, codes}
 use Rattle.cs_rows.specs.declared.fault.StoreError.{StoreError}
 use Rattle.cs_rows.specs.declared.fault.StoreError.TheVariants as store
 use Rattle.cs_apply_engine.specs.declared.fault.ApplyFault.{ApplyFault}
@@ -6,7 +7,9 @@ use Rattle.cs_apply_engine.specs.declared.fault.ApplyFault.TheVariants as apply
 use Rattle.cs_session_notes.specs.declared.fault.SessionFault.{SessionFault}
 use Rattle.cs_session_notes.specs.declared.fault.SessionFault.TheVariants as session
 use Rattle.cs_history.specs.declared.fault.HistoryFault.{HistoryFault}
-use Rattle.cs_history.specs.declared.fault.HistoryFault.TheVariants.{Store, Apply, WrongStore, NothingLeft, NoMemory}
+use Rattle.cs_rows.specs.Faults as stores
+use Rattle.cs_apply_engine.specs.Faults as applies
+use Rattle.cs_history.specs.declared.fault.HistoryFault.TheVariants.{Store, Apply, WrongStore, NotHistory, NothingLeft, OwnTable, TooLarge, Damaged, NoMemory}
 
 abbrev pub store_fault : StoreError → HistoryFault
 store_fault store.NoMemory = NoMemory
@@ -33,3 +36,34 @@ abbrev pub IsOther : HistoryFault → Type 0
 IsOther (Apply fault) = ⊥
 IsOther NothingLeft = ⊥
 IsOther fault = Unit {0}
+
+-- ---- numbers and names
+
+abbrev pub code_of : HistoryFault → ℕ
+code_of (Store error) = stores.code_of error
+code_of (Apply fault) = applies.code_of fault
+code_of WrongStore = 51
+code_of NotHistory = 100
+code_of NothingLeft = 101
+code_of Damaged = 102
+code_of TooLarge = 103
+code_of OwnTable = 104
+code_of NoMemory = 60
+
+-- SQLite's result codes: SQLITE_NOMEM, and SQLITE_ERROR for those of a history
+abbrev pub class_of : HistoryFault → ℕ
+class_of (Store error) = stores.class_of error
+class_of (Apply fault) = applies.class_of fault
+class_of NoMemory = 7
+class_of fault = 1
+
+abbrev pub name_of : HistoryFault → List ℕ
+name_of (Store error) = stores.name_of error
+name_of (Apply fault) = applies.name_of fault
+name_of WrongStore = codes "WrongStore"
+name_of NotHistory = codes "NotHistory"
+name_of NothingLeft = codes "NothingLeft"
+name_of Damaged = codes "DamagedHistory"
+name_of TooLarge = codes "HistoryFull"
+name_of OwnTable = codes "OwnTable"
+name_of NoMemory = codes "NoMemory"

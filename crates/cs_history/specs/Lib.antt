@@ -1,5 +1,6 @@
 pub mod Stored
 pub mod Actions
+pub mod Calls
 pub mod Moving
 pub mod Carrying
 pub mod Runs

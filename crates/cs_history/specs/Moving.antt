@@ -1,14 +1,16 @@
 -- The rows of a history, one by one.
-use Rattle.std.specs.Prelude.{◌≡◌, ℕ, Bool, true, false, not, List, [], ◌∷◌, Option, Some, None}
+use Rattle.std.specs.Prelude.{◌≡◌, ◌++◌, ℕ, Bool, true, false, not, List, [], ◌∷◌, filter, map as map_list, Option, Some, None}
+use Rattle.std.specs.FinMap as map
 use Rattle.std.specs.Ordering.{nat_cmp}
 use Rattle.std.specs.declared.cmp.Ordering.TheVariants.{Less}
 use Rattle.std.specs.Cmp.Lexicographic.{slice_cmp}
 use Rattle.cs_value.specs.declared.value.OwnedValue.{OwnedValue}
 use Rattle.cs_value.specs.Key.{row_key}
 use Rattle.cs_value.specs.State.{RowMap, State, rows_at, schema_at}
+use Rattle.cs_store_sql.specs.Records.{is_above}
 use Rattle.cs_apply_engine.specs.Running.{Leads}
-use Rattle.cs_history.specs.Stored.{ActionData, IsHistory, action_of, history_schema, last_undone, rows_of}
-use Rattle.cs_history.specs.Actions.{others}
+use Rattle.cs_history.specs.Stored.{ActionData, IsHistory, action_of, actions_of, history_schema, last_undone, rows_of}
+use Rattle.cs_history.specs.Actions.{newest, others}
 
 abbrev pub key_of : List OwnedValue → List ℕ
 key_of row = row_key history_schema.flags row
@@ -44,6 +46,7 @@ pub record MovesRow (done : Bool) (name : List ℕ) (row : List OwnedValue) (old
 pub record RemovesRow (name : List ℕ) (row : List OwnedValue) (old new : State) : Type 0 where
   pub history : IsHistory new name
   pub same : others new name ≡ others old name
+  pub held : rows_at new name ≡ map.remove (rows_at old name) (key_of row)
   pub done : Some row ≡ first_of false (rows_at old name) → rows_of true (rows_at new name) ≡ rows_of true (rows_at old name)
 
 -- the row of an action is the first one of those that are done
@@ -71,3 +74,33 @@ pub record NotesAction (name : List ℕ) (action : ActionData) (old new : State)
   pub forgotten : Forgotten name old mid
   pub none : rows_of false (rows_at mid name) ≡ []
   pub added : AddsRow name action mid new
+
+-- ---- the rows on both sides of a key
+
+abbrev pub rows_after : List ℕ → RowMap → List (List ℕ × List OwnedValue)
+rows_after key rows = filter (λ e. is_above key e.0) (map.entries rows)
+
+abbrev pub rows_up_to : List ℕ → RowMap → List (List ℕ × List OwnedValue)
+rows_up_to key rows = filter (λ e. not (is_above key e.0)) (map.entries rows)
+
+-- it is the first row after a key, or there is none
+abbrev pub IsNextAfter : List ℕ → Option (List OwnedValue) → RowMap → Type 0
+IsNextAfter key None rows = rows_after key rows ≡ []
+IsNextAfter key (Some row) rows = (rest : List (List ℕ × List OwnedValue)) × (rows_after key rows ≡ (key_of row, row) ∷ rest)
+
+-- of the actions that are done, these rows come up to the key, and all others after it
+pub record Divides (key : List ℕ) (front : List (List ℕ × List OwnedValue)) (rows : RowMap) : Type 0 where
+  pub reach : (other : List ℕ) → is_above key other ≡ true → is_above last_undone other ≡ true
+  pub before : filter (λ e. not (is_above key e.0)) (rows_of true rows) ≡ front
+  pub all : rows_of true rows ≡ front ++ rows_after key rows
+
+-- the newest actions that are done come up to the key
+abbrev pub Keeps : ℕ → ℕ → List ℕ → RowMap → Type 0
+Keeps keep bytes key rows = (front : List (List ℕ × List OwnedValue)) × Divides key front rows
+    × (newest keep bytes (actions_of true rows) ≡ map_list (λ e. action_of e.1) front)
+
+-- some of the rows after the key may be gone
+pub record DropsAfter (key name : List ℕ) (old new : State) : Type 0 where
+  pub history : IsHistory new name
+  pub same : others new name ≡ others old name
+  pub stay : rows_up_to key (rows_at new name) ≡ rows_up_to key (rows_at old name)

@@ -2,7 +2,7 @@
 use Rattle.std.specs.Prelude.{◌≡◌, ◌⊎◌, ℕ, true, false, List, [], ◌∷◌}
 use Rattle.cs_value.specs.State.{State}
 use Rattle.cs_history.specs.Stored.{ActionData, done_actions, undone_actions}
-use Rattle.cs_history.specs.Actions.{others, CanMove, LeadsApart, Acts, Stays, UndoesLast, RedoesNext}
+use Rattle.cs_history.specs.Actions.{others, CanMove, LeadsApart, Acts, Forgets, Stays, UndoesLast, RedoesNext}
 
 -- ---- histories that are sound
 
@@ -54,6 +54,11 @@ RunsSound = (name : List ℕ) (origin m : State) (later : List State) → IsSoun
 abbrev pub MovesSound : Type 0
 MovesSound = (name : List ℕ) (origin m : State) (action : ActionData) (rest : List ActionData) → IsSound name origin m
     → (done_actions m name ≡ action ∷ rest → CanMove true name m) × (undone_actions m name ≡ action ∷ rest → CanMove false name m)
+
+-- once the oldest are forgotten, it is sound from a later beginning
+abbrev pub ForgetsSound : Type 0
+ForgetsSound = (name : List ℕ) (origin m n : State) (keep bytes : ℕ) → IsSound name origin m → Forgets keep bytes name m n
+    → (later : State) × IsSound name later n
 
 -- the actions that are done say what the tables are
 abbrev pub SameTables : Type 0

@@ -1,8 +1,10 @@
 //! Why a history refuses a call.
+ghost use Rattle.cs_history.specs.Faults.{class_of, code_of, name_of};
+
 use cs_apply::ApplyFault;
 use cs_session::SessionFault;
 use cs_store::StoreError;
-use cs_value::NoMemory;
+use cs_value::{Fault, NoMemory};
 use std::alloc::{AllocError, AllocFailed};
 use thiserror::Error;
 
@@ -36,6 +38,56 @@ pub enum HistoryFault {
     /// Memory was refused.
     #[error("out of memory")]
     NoMemory,
+}
+
+impl Fault for HistoryFault {
+    ghost code_of = { code_of };
+
+    ghost class_of = { class_of };
+
+    ghost name_of = { name_of };
+
+    fn code(&self) -> u8 {
+        match self {
+            HistoryFault::Store(error) => error.code(),
+            HistoryFault::Apply(fault) => fault.code(),
+            HistoryFault::WrongStore => 51,
+            HistoryFault::NotHistory => 100,
+            HistoryFault::NothingLeft => 101,
+            HistoryFault::Damaged => 102,
+            HistoryFault::TooLarge => 103,
+            HistoryFault::OwnTable => 104,
+            HistoryFault::NoMemory => NoMemory.code(),
+        }
+    }
+
+    fn class(&self) -> u8 {
+        match self {
+            HistoryFault::Store(error) => error.class(),
+            HistoryFault::Apply(fault) => fault.class(),
+            HistoryFault::WrongStore
+            | HistoryFault::NotHistory
+            | HistoryFault::NothingLeft
+            | HistoryFault::Damaged
+            | HistoryFault::TooLarge
+            | HistoryFault::OwnTable => 1,
+            HistoryFault::NoMemory => NoMemory.class(),
+        }
+    }
+
+    fn name(&self) -> &'static str {
+        match self {
+            HistoryFault::Store(error) => error.name(),
+            HistoryFault::Apply(fault) => fault.name(),
+            HistoryFault::WrongStore => "WrongStore",
+            HistoryFault::NotHistory => "NotHistory",
+            HistoryFault::NothingLeft => "NothingLeft",
+            HistoryFault::Damaged => "DamagedHistory",
+            HistoryFault::TooLarge => "HistoryFull",
+            HistoryFault::OwnTable => "OwnTable",
+            HistoryFault::NoMemory => NoMemory.name(),
+        }
+    }
 }
 
 impl From<StoreError> for HistoryFault {

@@ -1,6 +1,6 @@
 //! What holds of all runs of a history. A law is a function without effect: its contract states the law, and a caller
 //! that needs it calls it.
-ghost use Rattle.cs_history.specs.Runs.{BeginsSound, MovesSound, RunsSound, SameTables, UndoRestores, RedoRestores};
+ghost use Rattle.cs_history.specs.Runs.{BeginsSound, ForgetsSound, MovesSound, RunsSound, SameTables, UndoRestores, RedoRestores};
 
 use cs_wire::changeset_files_law;
 
@@ -9,11 +9,13 @@ use cs_wire::changeset_files_law;
 /// beginning, and to apply those that are undone, the next one first, meets none.
 ///
 /// `empty`: a history without actions is sound. `runs`: a run keeps it sound. `moves`: an undo of it meets no
-/// conflict, nor does a redo. `same`: the actions that are done say what the tables are.
+/// conflict, nor does a redo. `forgets`: once the oldest actions are forgotten, it is sound from a later beginning.
+/// `same`: the actions that are done say what the tables are.
 pub fn history_law()
     ensures empty { BeginsSound }
     ensures runs { RunsSound }
     ensures moves { MovesSound }
+    ensures forgets { ForgetsSound }
     ensures same { SameTables }
 {
     changeset_files_law();

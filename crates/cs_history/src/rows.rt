@@ -8,7 +8,7 @@ ghost use Rattle.cs_store_sql.specs.Records.{is_above};
 ghost use Rattle.cs_store.specs.Pages.{page_in};
 ghost use Rattle.cs_history.specs.Faults.{IsOther};
 ghost use Rattle.cs_history.specs.Carrying.{Works};
-ghost use Rattle.cs_history.specs.Moving.{IsInFront, MovesRow, RemovesRow, first_of, start_of};
+ghost use Rattle.cs_history.specs.Moving.{IsInFront, IsNextAfter, MovesRow, RemovesRow, first_of, start_of};
 ghost use Rattle.cs_history.specs.Stored.{IsHistory, action_of, history_schema, is_of, last_undone};
 
 use crate::fault::HistoryFault;
@@ -49,15 +49,41 @@ fn first_page<S: Alter + Drop>(
     name: &str,
     done: bool,
 ) -> Result<Vec<Row>, HistoryFault>
-    ensures works { Works (λ rows old new. (new ≡ old) × (rows.items ≡ page_in (rows_at old name.now) (start_of done) 1))
-        (state S.Store transaction.old) (state S.Store transaction.new) result }
+    ensures works { Works (λ rows old new. (new ≡ old)
+        × (rows.items ≡ page_in (rows_at old name.now) (start_of done) 1)) (state S.Store transaction.old)
+        (state S.Store transaction.new) result }
     ensures named { IfErr result IsOther }
 {
     if !done {
         return Ok(transaction.page(alloc, name, None, 1)?);
     }
-    let last = Key::from_bytes(Vec::from_slice(alloc, &LAST_UNDONE)?);
+    let last = last_undone_key(alloc)?;
     Ok(transaction.page(alloc, name, Some(&last), 1)?)
+}
+
+/// Returns the key after which the rows of the actions come that are done.
+pub(crate) fn last_undone_key(alloc: Global) -> Result<Key, HistoryFault>
+    ensures key { IfOk result (λ key. key ≡ last_undone) }
+    ensures named { IfErr result IsOther }
+{
+    Ok(Key::from_bytes(Vec::from_slice(alloc, &LAST_UNDONE)?))
+}
+
+/// Returns the first row after a key, if there is one.
+pub(crate) fn row_after<S: Alter + Drop>(
+    alloc: Global,
+    transaction: &mut Transaction<S>,
+    name: &str,
+    key: &Key,
+) -> Result<Option<Row>, HistoryFault>
+    ensures works { Works (λ o old new. (new ≡ old) × (IsHistory old name.now
+        → IsNextAfter key.now o (rows_at old name.now))) (state S.Store transaction.old)
+        (state S.Store transaction.new) result }
+    ensures named { IfErr result IsOther }
+{
+    transaction.store_law();
+    let mut rows = transaction.page(alloc, name, Some(key), 1)?;
+    Ok(rows.pop())
 }
 
 /// Returns the row if its action is done, or else if it is undone.
@@ -74,7 +100,7 @@ fn of_side(alloc: Global, row: Row, done: bool) -> Result<Option<Row>, HistoryFa
 }
 
 /// Returns the key of a row.
-fn key_of(alloc: Global, row: &Row) -> Result<Key, HistoryFault>
+pub(crate) fn key_of(alloc: Global, row: &Row) -> Result<Key, HistoryFault>
     ensures key { IfOk result (λ key. key ≡ row_key history_schema.flags row.now) }
     ensures named { IfErr result IsOther }
 {
@@ -127,7 +153,7 @@ pub(crate) fn move_row<S: Alter + Drop>(
     Ok(())
 }
 
-/// Removes the first row of the actions that are undone.
+/// Removes a row.
 pub(crate) fn remove_row<S: Alter + Drop>(
     alloc: Global,
     transaction: &mut Transaction<S>,
@@ -137,6 +163,7 @@ pub(crate) fn remove_row<S: Alter + Drop>(
     ensures works { Works (λ _ old new. IsHistory old name.now
         → RemovesRow name.now row.now old new) (state S.Store transaction.old)
         (state S.Store transaction.new) result }
+    ensures named { IfErr result IsOther }
 {
     transaction.store_law();
     let key = key_of(alloc, row)?;
@@ -153,7 +180,8 @@ pub(crate) fn check_place(
     first: Option<&Row>,
 ) -> Result<(), HistoryFault>
     ensures placed { OnOk result (is_of done (row_key history_schema.flags row.now) ≡ true) }
-    ensures front { OnOk result (IsInFront (row_key history_schema.flags row.now) (option_map (λ r. r.now) first.entry)) }
+    ensures front { OnOk result (IsInFront (row_key history_schema.flags row.now)
+        (option_map (λ r. r.now) first.entry)) }
     ensures named { IfErr result IsOther }
 {
     let key = key_of(alloc, row)?;

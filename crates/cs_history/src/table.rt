@@ -1,10 +1,10 @@
 //! The table of a history, and its rows.
-ghost use Rattle.std.specs.Prelude.{◌≡◌, Ok, IfOk, IfErr, IsTrue, OnOk, map, string_bytes};
+ghost use Rattle.std.specs.Prelude.{◌≡◌, ◌↔◌, Ok, IfOk, IfErr, IsTrue, is_ok, map, string_bytes};
 ghost use Rattle.sqlite.specs.Held.{state};
 ghost use Rattle.cs_value.specs.State.{schema_at};
 ghost use Rattle.cs_rows.specs.Editing.{Declares};
 ghost use Rattle.cs_history.specs.Faults.{IsOther};
-ghost use Rattle.cs_history.specs.Carrying.{Carries, Works};
+ghost use Rattle.cs_history.specs.Carrying.{Works};
 ghost use Rattle.cs_history.specs.Stored.{IsHistory, Opens, history_schema};
 
 use crate::fault::HistoryFault;
@@ -16,41 +16,18 @@ use std::alloc::Global;
 /// The flags of the columns: the first one is the key.
 pub(crate) const FLAGS: [u8; 3] = [1, 0, 0];
 
-/// Opens a history in a transaction: declares its table without rows if no table has the name. Nothing is committed.
+/// Declares the table of a history if no table has the name.
 ///
 /// The columns are `action`, which is the key and has an integer, `label`, which has a text, and `changeset`, which has
 /// the file of a changeset as a blob. None takes NULL. The number of an action that is done is below zero.
-///
-/// # Errors
-///
-/// [`NotHistory`](HistoryFault::NotHistory) if a table of the name has other columns, another key or other rules for
-/// NULL, and [`BadSchema`](cs_store::StoreError::BadSchema) if no table can have the name. `StoreFault` or `NoMemory`
-/// if the transaction has ended, the database refuses or memory runs out, and
-/// [`DamagedStore`](cs_store::StoreError::DamagedStore) if the disk does not return what was written. After a refusal
-/// the transaction shows what it showed before, or it has ended and the store is as it was when it began.
-pub fn open_in_transaction<S: Alter + Drop>(
-    alloc: Global,
-    transaction: &mut Transaction<S>,
-    name: &str,
-) -> Result<(), HistoryFault>
-    ensures opened { Carries (λ _ old new. Opens name.now old new) (state S.Store transaction.old)
-        (state S.Store transaction.new) result }
-{
-    transaction.store_law();
-    transaction.mark()?;
-    let result = open_table(alloc, transaction, name);
-    transaction.end_call(result.is_ok())?;
-    result
-}
-
-/// Declares the table of a history if no table has the name.
-fn open_table<S: Alter + Drop>(
+pub(crate) fn open_table<S: Alter + Drop>(
     alloc: Global,
     transaction: &mut Transaction<S>,
     name: &str,
 ) -> Result<(), HistoryFault>
     ensures works { Works (λ _ old new. Opens name.now old new) (state S.Store transaction.old)
         (state S.Store transaction.new) result }
+    ensures named { IfErr result IsOther }
 {
     match find_schema(alloc, transaction, name)? {
         Some(schema) => check_schema(&schema),
@@ -88,8 +65,8 @@ fn find_schema<S: Alter + Drop>(
 }
 
 /// Checks that a schema is that of a history.
-fn check_schema(schema: &Schema) -> Result<(), HistoryFault>
-    ensures checked { OnOk result (schema.now ≡ history_schema) }
+pub(crate) fn check_schema(schema: &Schema) -> Result<(), HistoryFault>
+    ensures checked { IsTrue (is_ok result) ↔ (schema.now ≡ history_schema) }
     ensures named { IfErr result IsOther }
 {
     if !are_names(schema.columns())
@@ -103,7 +80,7 @@ fn check_schema(schema: &Schema) -> Result<(), HistoryFault>
 
 /// Returns whether these are the names of the columns of a history.
 fn are_names(columns: &[String]) -> bool
-    ensures { IsTrue result → map string_bytes columns.now ≡ history_schema.columns }
+    ensures { IsTrue result ↔ (map string_bytes columns.now ≡ history_schema.columns) }
 {
     let [action, label, changeset] = columns else {
         return false;
@@ -125,6 +102,7 @@ fn declare_table<S: Alter + Drop>(
 ) -> Result<(), HistoryFault>
     ensures works { Works (λ _ old new. Declares old name.now history_schema (Ok new)) (state S.Store transaction.old)
         (state S.Store transaction.new) result }
+    ensures named { IfErr result IsOther }
 {
     let columns = column_names(alloc)?;
     transaction.declare(
@@ -140,6 +118,7 @@ fn declare_table<S: Alter + Drop>(
 /// Returns the names of the columns of a history.
 fn column_names(alloc: Global) -> Result<Vec<String>, HistoryFault>
     ensures made { IfOk result (λ names. map string_bytes names.items ≡ history_schema.columns) }
+    ensures named { IfErr result IsOther }
 {
     let mut names = Vec::new(alloc);
     names.push(String::from_str(alloc, "action")?)?;

@@ -1,9 +1,7 @@
 //! Histories: actions that insert a row into t, undos and redos in one transaction.
 use crate::rows::{Call, edit_of, end};
 use crate::session::{attached, begun};
-use cs_history::{
-    HistoryFault, act_in_transaction, open_in_transaction, redo_in_transaction, undo_in_transaction,
-};
+use cs_history::{HistoryCall, HistoryFault, act_in_transaction, call_in_transaction};
 use cs_session::Session;
 use cs_store::{Edit, Transaction};
 use cs_value::Value;
@@ -20,26 +18,50 @@ enum Step {
     Act(&'static [Value<'static>]),
     /// Changes nothing.
     Rest,
-    Undo,
-    Redo,
+    Call(HistoryCall),
 }
 
+const UNDO: Step = Step::Call(HistoryCall::Undo);
+const REDO: Step = Step::Call(HistoryCall::Redo);
+
+// What is left of the actions that are done: two, none, and as many as have 20 bytes, which is one.
+const KEEP_TWO: Step = Step::Call(HistoryCall::Forget {
+    keep: 2,
+    bytes: u64::MAX,
+});
+const KEEP_NONE: Step = Step::Call(HistoryCall::Forget {
+    keep: 0,
+    bytes: u64::MAX,
+});
+const KEEP_FEW_BYTES: Step = Step::Call(HistoryCall::Forget { keep: 9, bytes: 20 });
+
 const STEPS: &[Expected] = &[
-    (Step::Undo, false, 0),
+    (UNDO, false, 0),
     (Step::Act(&[Value::Int(1), Value::Null]), true, 1),
     (Step::Act(&[Value::Int(2), Value::Null]), true, 2),
-    (Step::Redo, false, 2),
-    (Step::Undo, true, 1),
-    (Step::Undo, true, 0),
-    (Step::Undo, false, 0),
-    (Step::Redo, true, 1),
+    (REDO, false, 2),
+    (UNDO, true, 1),
+    (UNDO, true, 0),
+    (UNDO, false, 0),
+    (REDO, true, 1),
     (Step::Rest, true, 1),
-    (Step::Redo, true, 2),
-    (Step::Undo, true, 1),
+    (REDO, true, 2),
+    (UNDO, true, 1),
     (Step::Act(&[Value::Int(3), Value::Null]), true, 2),
-    (Step::Redo, false, 2),
-    (Step::Undo, true, 1),
-    (Step::Undo, true, 0),
+    (REDO, false, 2),
+    (UNDO, true, 1),
+    (UNDO, true, 0),
+    (REDO, true, 1),
+    (REDO, true, 2),
+    (KEEP_TWO, true, 2),
+    (UNDO, true, 1),
+    (KEEP_NONE, true, 1),
+    (UNDO, false, 1),
+    (REDO, true, 2),
+    (Step::Act(&[Value::Int(4), Value::Null]), true, 3),
+    (KEEP_FEW_BYTES, true, 3),
+    (UNDO, true, 2),
+    (UNDO, false, 2),
 ];
 
 /// Carries out an edit that a session records, and notes it as an action.
@@ -70,8 +92,7 @@ fn carry_out(
         Step::Rest => {
             act_in_transaction(rt.alloc(), transaction, "undo", "Rest", &session).is_ok()
         }
-        Step::Undo => undo_in_transaction(rt.alloc(), transaction, "undo").is_ok(),
-        Step::Redo => redo_in_transaction(rt.alloc(), transaction, "undo").is_ok(),
+        Step::Call(call) => call_in_transaction(rt.alloc(), transaction, "undo", call).is_ok(),
     }
 }
 
@@ -79,7 +100,7 @@ fn carry_out(
 fn undoes_and_redoes_actions(rt: HostRuntime) {
     let (store, session) = attached(&rt);
     let mut transaction = begun(&rt, store);
-    let opened = open_in_transaction(rt.alloc(), &mut transaction, "undo");
+    let opened = call_in_transaction(rt.alloc(), &mut transaction, "undo", HistoryCall::Open);
     assert!(rt; opened.is_ok());
     for (place, step) in STEPS.iter().enumerate() {
         assert!(rt;

@@ -1,18 +1,14 @@
 -- `rows::first_row`: the clause `works`.
-use Rattle.std.proofs.Common.{◌≡◌, ◌-◌, ℕ, Result, Ok, Err, IfOk, None, List, [], ◌∷◌, ◌++◌, refl, ap, sym, subst, ◌∙◌}
+use Rattle.std.proofs.Common.{◌≡◌, ◌-◌, ℕ, Result, Ok, Err, IfOk, None, [], ◌++◌, ap, sym, subst, ◌∙◌}
 use Rattle.std.specs.Prelude.{take}
 use Rattle.sqlite.specs.Held.{state}
 use Rattle.cs_store.specs.Store.{tables_in}
 use Rattle.cs_value.specs.State.{rows_at}
 use Rattle.cs_history.specs.Moving.{first_of}
 use Rattle.cs_history.specs.Stored.{IsHistory}
-use Rattle.cs_history.proofs.FirstLemmas.{IsFirst, page_first, popped_none, popped_some}
+use Rattle.cs_history.proofs.FirstLemmas.{IsFirst, page_first, popped_none, popped_some, take_none}
 use Rattle.cs_history.proofs.WorkLemmas.{shown_state, works_after}
 use Rattle.cs_history.proofs.rows.first_row.Goals as goal
-
-take_none : {X : Type 0} (xs : List X) → take 0 xs ≡ []
-take_none [] = refl
-take_none (x ∷ xs) = refl
 
 ok_so : {X E : Type 0} (r : Result X E) {P : X → Type 0} (Q : X → Type 0) → ((x : X) → P x → Q x) → IfOk r P → IfOk r Q
 ok_so (Ok x) Q so it = so x it

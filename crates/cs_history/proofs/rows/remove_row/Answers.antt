@@ -21,4 +21,5 @@ returns g c =
               (map written_of c.in_ok-edit.field-0.items) (rw (← c.in_ok-table.ensures.ok, ← c.in_ok-key.ensures.key) (c.in_ok-edit.ensures.edited clean)),
         );
       };
+      named = tt;
     }

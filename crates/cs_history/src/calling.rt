@@ -1,0 +1,97 @@
+//! The calls of a history that take no session.
+ghost use Rattle.std.specs.Prelude.{◌≡◌, IfErr, IsTrue};
+ghost use Rattle.sqlite.specs.State.{HasCleanDisk};
+ghost use Rattle.sqlite.specs.Held.{state};
+ghost use Rattle.cs_store.specs.Store.{tables_in};
+ghost use Rattle.cs_history.specs.declared.fault.HistoryFault.TheVariants.{NothingLeft as NoActionLeft};
+ghost use Rattle.cs_history.specs.Calls.{CanCall, Does, HasNone};
+ghost use Rattle.cs_history.specs.Carrying.{Carries, Works};
+ghost use Rattle.cs_history.specs.Faults.{IsConflict};
+
+use crate::fault::HistoryFault;
+use crate::forgetting::forget;
+use crate::table::open_table;
+use crate::turning::turn;
+use cs_store::Transaction;
+use sqlite::Alter;
+use std::alloc::Global;
+
+/// A call of a history that takes no session.
+#[derive(Clone, Copy, Debug)]
+pub enum HistoryCall {
+    /// Declares its table without rows, if no table has the name.
+    ///
+    /// The columns are `action`, which is the key and has an integer, `label`, which has a text, and `changeset`, which
+    /// has the file of a changeset as a blob. None takes NULL. The number of an action that is done is below zero.
+    Open,
+    /// Reverts the changeset of the last action that is done, and notes that it is undone.
+    Undo,
+    /// Applies the changeset of the action that was undone last, and notes that it is done.
+    Redo,
+    /// Drops the oldest actions that are done: at most `keep` of them are left, whose changesets have at most `bytes`
+    /// bytes. Those that are undone stay.
+    Forget { keep: u64, bytes: u64 },
+}
+
+/// Carries out a call of a history in a transaction. Nothing is committed.
+///
+/// Changes of tables that are not there, or have another key, are passed over, as by
+/// [`revert_in_transaction`](cs_apply::revert_in_transaction).
+///
+/// # Errors
+///
+/// [`NotHistory`](HistoryFault::NotHistory) if the table is not a history: if no table has the name, but for `Open`, or
+/// if it has other columns, another key or other rules for NULL.
+/// [`BadSchema`](cs_store::StoreError::BadSchema) from `Open` if no table can have the name.
+/// [`NothingLeft`](HistoryFault::NothingLeft) if no action is done that `Undo` undoes, or none undone that `Redo` does.
+/// [`Apply`](HistoryFault::Apply) with the first conflict from these two if rows were changed since the action, or if a
+/// table has more columns now. If another program has changed the row of the action, its changeset may not be one:
+/// `Apply` too, or [`Damaged`](HistoryFault::Damaged) or [`TooLarge`](HistoryFault::TooLarge).
+/// `StoreFault` or `NoMemory` if the transaction has ended, the database refuses or memory runs out. If the disk does
+/// not return what was written, [`DamagedStore`](cs_store::StoreError::DamagedStore) or any of these. After a refusal
+/// the transaction shows what it showed before, or it has ended and the store is as it was when it began.
+pub fn call_in_transaction<S: Alter + Drop>(
+    alloc: Global,
+    transaction: &mut Transaction<S>,
+    name: &str,
+    call: HistoryCall,
+) -> Result<(), HistoryFault>
+    ensures done { Carries (λ _ old new. Does call name.now old new) (state S.Store transaction.old)
+        (state S.Store transaction.new) result }
+    ensures left { HasCleanDisk (state S.Store transaction.new) → IsTrue (state S.Store transaction.old).in_transaction
+        → IfErr result (λ e. e ≡ NoActionLeft
+        → HasNone call name.now (tables_in (state S.Store transaction.old).now)) }
+    ensures clean { HasCleanDisk (state S.Store transaction.new)
+        → IsTrue (state S.Store transaction.old).in_transaction
+        → CanCall call name.now (tables_in (state S.Store transaction.old).now) → IfErr result (λ e. ¬ IsConflict e) }
+{
+    transaction.store_law();
+    transaction.mark()?;
+    let result = work(alloc, transaction, name, call);
+    transaction.end_call(result.is_ok())?;
+    result
+}
+
+/// Carries out a call. After a refusal the transaction may show what was written.
+fn work<S: Alter + Drop>(
+    alloc: Global,
+    transaction: &mut Transaction<S>,
+    name: &str,
+    call: HistoryCall,
+) -> Result<(), HistoryFault>
+    ensures works { Works (λ _ old new. Does call name.now old new) (state S.Store transaction.old)
+        (state S.Store transaction.new) result }
+    ensures left { HasCleanDisk (state S.Store transaction.new) → IsTrue (state S.Store transaction.old).in_transaction
+        → IfErr result (λ e. e ≡ NoActionLeft
+        → HasNone call name.now (tables_in (state S.Store transaction.old).now)) }
+    ensures clean { HasCleanDisk (state S.Store transaction.new)
+        → IsTrue (state S.Store transaction.old).in_transaction
+        → CanCall call name.now (tables_in (state S.Store transaction.old).now) → IfErr result (λ e. ¬ IsConflict e) }
+{
+    match call {
+        HistoryCall::Open => open_table(alloc, transaction, name),
+        HistoryCall::Undo => turn(alloc, transaction, name, true),
+        HistoryCall::Redo => turn(alloc, transaction, name, false),
+        HistoryCall::Forget { keep, bytes } => forget(alloc, transaction, name, keep, bytes),
+    }
+}
