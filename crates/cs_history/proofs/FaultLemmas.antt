@@ -50,7 +50,7 @@ resource_other (apply.Abort k) (inr is) = absurd is
 resource_other (apply.Misuse k) (inr is) = absurd is
 resource_other apply.NoMemory (inr is) = absurd is
 
--- want of memory, or of the database, is another refusal
+-- what is refused since memory ran out, or by the database, is another refusal
 pub resource_named : {X : Type 0} (r : Result X HistoryFault) (fault : ApplyFault) → IsErrAnd r (λ e. e ≡ apply_fault fault) → IsResource fault → IfErr r IsOther
 resource_named (Ok x) fault is resource = tt
 resource_named (Err e) fault is resource = subst IsOther (sym is) (resource_other fault resource)

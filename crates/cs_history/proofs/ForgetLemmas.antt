@@ -1,6 +1,6 @@
 -- The rows on both sides of a key, and the newest actions that are done.
 use Rattle.std.proofs.Common.{◌≡◌, ◌≤◌, ◌<◌, ◌-◌, ℕ, zero, suc, Bool, true, false, true≢false, not, List, [], ◌∷◌, ◌++◌, T, length, refl, sym, ap, subst, ◌∙◌, arith}
-use Rattle.std.specs.Prelude.{filter, map, take, leb, if◌then◌else◌, Option, None, Some, SomeIff}
+use Rattle.std.specs.Prelude.{filter, map, take, leb, Option, None, Some, SomeIff}
 use Rattle.std.proofs.lemmas.Bool.{leb-true, le-leb}
 use Rattle.std.specs.Option.{option_to_list}
 use Rattle.std.specs.declared.cmp.Ordering.{Ordering}

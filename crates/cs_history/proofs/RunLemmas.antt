@@ -67,13 +67,13 @@ moves_sound name origin m action rest sound = (
 newest_back : (name : List ℕ) (keep bytes : ℕ) (origin : State) (actions : List ActionData) (now : State) → LeadsBack name origin actions now → (later : State) × LeadsBack name later (newest keep bytes actions) now
 newest_back name keep bytes origin [] now back = (now, refl)
 newest_back name zero bytes origin (action ∷ actions) now back = (now, refl)
-newest_back name (suc keep) bytes origin (action ∷ actions) now back = at (leb (length action.changeset) bytes) refl
+newest_back name (suc keep) bytes origin (action ∷ actions) now back =
+    at (leb (length action.changeset) bytes) refl (newest_back name keep (bytes - length action.changeset) origin actions back.0 back.2)
   where
-    at : (b : Bool) → leb (length action.changeset) bytes ≡ b → (later : State) × LeadsBack name later (newest (suc keep) bytes (action ∷ actions)) now
-    at true fits =
-        let rest = newest_back name keep (bytes - length action.changeset) origin actions back.0 back.2 in
-        (rest.0, rw fits (back.0, back.1, rest.1))
-    at false full = (now, rw full refl)
+    at : (b : Bool) → leb (length action.changeset) bytes ≡ b → (later : State) × LeadsBack name later (newest keep (bytes - length action.changeset) actions) back.0
+        → (later : State) × LeadsBack name later (newest (suc keep) bytes (action ∷ actions)) now
+    at true fits rest = (rest.0, rw fits (back.0, back.1, rest.1))
+    at false full rest = (now, rw full refl)
 
 pub forgets_sound : ForgetsSound
 forgets_sound name origin m n keep bytes sound it =

@@ -37,13 +37,13 @@ module _ (s : State) (name : List ℕ) (is : IsState s) (history : IsHistory s n
   table : (t : TableData) × (get s name ≡ Some t) × (t.schema ≡ history_schema)
   table = table_of_schema (get s name) history_schema history
 
-  -- what a changeset leads to beside the table, it leads to with it
+  -- what a changeset leads to without the table, it leads to with it
   turned_with : (done : Bool) (file : List ℕ) (reached : State) → Turns done name file (others s name) reached
       → (state : State) × Turning done file s state × (others state name ≡ reached) × (get state name ≡ get s name)
   turned_with true file reached it = leads_here name file reached s table.0 is table.1 it
   turned_with false file reached it = leads_from name file s reached table.0 is table.1 it
 
-  -- so the changeset of the first row leads back, or on, if it does so beside the table
+  -- so the changeset of the first row leads back, or on, if it does so without the table
   pub can_turn : (done : Bool) (row : List OwnedValue) → Some row ≡ first_of done (rows_at s name) → CanMove done name s → (reached : State) × Turning done (action_of row).changeset s reached
   can_turn done row is_first can =
       let entry = first_entry s name is history done row (rows_of done (rows_at s name)) refl is_first in
@@ -106,7 +106,7 @@ module _ (law : ChangesetFiles) (file : List ℕ) (old reached : State) (leads :
   no_group : GroupData
   no_group = record { header = record { name = []; flags = [] }; entries = [] }
 
-  -- is refused only for want of memory, or of the database
+  -- is refused only since memory ran out, or by the database
   pub applies_err : (e : ApplyFault) → Refuses AlwaysAborts Reported file Forward old e → IsResource e
   applies_err (fault.Read f) refuses = absurd (refuses.refused (leads.changeset, leads.is_changeset, leads.is_file))
   applies_err (fault.Wider place) refuses = absurd ((as_led refuses.changeset refuses.read).none_wider place no_group refuses.first.within (refuses.first.wider no_group))

@@ -64,8 +64,9 @@ fn watch_table<S: Alter>(
     let Some(schema) = store.schema(alloc, name)? else {
         return Ok(());
     };
-    if check_schema(&schema).is_err() {
-        session.attach(alloc, store, name)?;
+    if check_schema(&schema).is_ok() {
+        return Ok(());
     }
+    session.attach(alloc, store, name)?;
     Ok(())
 }

@@ -1,5 +1,5 @@
 -- `forgetting::drop_after`: the clause `works`.
-use Rattle.std.proofs.Common.{◌≡◌, [], Some, sym, subst, ◌∙◌}
+use Rattle.std.proofs.Common.{◌≡◌, [], Some, sym, subst}
 use Rattle.sqlite.specs.Held.{state}
 use Rattle.cs_value.specs.State.{State, rows_at}
 use Rattle.cs_store.specs.Store.{tables_in}

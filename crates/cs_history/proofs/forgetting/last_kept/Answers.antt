@@ -1,16 +1,14 @@
 -- `forgetting::last_kept`: what it ensures.
-use Rattle.std.proofs.Common.{◌≡◌, ◌-◌, ℕ, List, Bool, true, false, None, Some, Ok, length, refl, sym, ap, subst, ◌∙◌, arith}
+use Rattle.std.proofs.Common.{◌≡◌, ◌-◌, ℕ, List, true, false, None, Some, length, refl, sym, ap, subst, ◌∙◌, arith}
 use Rattle.std.specs.Prelude.{leb}
 use Rattle.sqlite.specs.Held.{state}
-use Rattle.cs_value.specs.declared.value.OwnedValue.{OwnedValue}
 use Rattle.cs_value.specs.State.{State, rows_at}
 use Rattle.cs_store.specs.Store.{tables_in}
 use Rattle.cs_store_tables.specs.Laws.{keeps_itself, keeps_then}
 use Rattle.cs_history.specs.Moving.{IsNextAfter, Keeps, key_of}
 use Rattle.cs_history.specs.Stored.{IsHistory, action_of}
-use Rattle.cs_history.specs.declared.fault.HistoryFault.{HistoryFault}
 use Rattle.cs_history.proofs.ForgetLemmas.{KeepsSoFar, first_kept, full_kept, has_no_room, has_room, last_one, next_kept, none_kept}
-use Rattle.cs_history.proofs.WorkLemmas.{works_err, works_so, works_then}
+use Rattle.cs_history.proofs.WorkLemmas.{works_err, works_then}
 use Rattle.cs_history.proofs.forgetting.last_kept.Goals as goal
 
 pub loop-count-init : goal.loop-count-init

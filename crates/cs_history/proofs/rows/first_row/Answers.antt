@@ -1,5 +1,5 @@
 -- `rows::first_row`: the clause `works`.
-use Rattle.std.proofs.Common.{◌≡◌, ◌-◌, ℕ, Result, Ok, Err, IfOk, None, List, [], ◌∷◌, ◌++◌, refl, ap, sym, subst, ◌∙◌}
+use Rattle.std.proofs.Common.{◌≡◌, ◌-◌, ℕ, Result, Ok, Err, IfOk, None, [], ◌++◌, ap, sym, subst, ◌∙◌}
 use Rattle.std.specs.Prelude.{take}
 use Rattle.sqlite.specs.Held.{state}
 use Rattle.cs_store.specs.Store.{tables_in}

@@ -1,5 +1,5 @@
 -- `rows::row_after`: what it ensures.
-use Rattle.std.proofs.Common.{◌≡◌, ◌-◌, ℕ, List, [], ◌∷◌, Some, Ok, refl, ap, ◌∙◌}
+use Rattle.std.proofs.Common.{◌≡◌, ◌-◌, ℕ, Some, Ok, ap, ◌∙◌}
 use Rattle.std.specs.Prelude.{take}
 use Rattle.sqlite.specs.Held.{state}
 use Rattle.cs_value.specs.State.{rows_at}
@@ -29,5 +29,8 @@ returns-clause-works g c =
     works_after {E = HistoryFault} (λ o before after. (after ≡ before) × (IsHistory before name → IsNextAfter key o (rows_at before name))) (Ok c.pop.result)
     (works_ok (reads_work (λ rows before after. (after ≡ before) × (rows.items ≡ page_in (rows_at before name) (Some key) 1)) (Ok c.in_ok-rows.rows) c.page.ensures.kept c.in_ok-rows.ensures.reads
     (λ clean. (ap tables_in (c.in_ok-rows.ensures.same clean), c.in_ok-rows.ensures.listed clean))))
-    (λ clean inside read. (read.0, λ history. next_after (tables_in old.now) name (shown_state old new c.page.ensures.kept c.store_law.ensures.holds c.store_law.ensures.inside clean inside) history key c.in_ok-rows.rows.items read.1 c.pop.result c.pop.new.self.items c.pop.ensures.items
-    (λ none. c.pop.ensures.rest ∙ ap (λ (n : ℕ). take (n - 1) c.in_ok-rows.rows.items) (rw none at c.pop.ensures.cases).0 ∙ take_none c.in_ok-rows.rows.items)))
+    (λ clean inside read. (
+      read.0,
+      λ history. next_after (tables_in old.now) name (shown_state old new c.page.ensures.kept c.store_law.ensures.holds c.store_law.ensures.inside clean inside) history key c.in_ok-rows.rows.items read.1 c.pop.result c.pop.new.self.items c.pop.ensures.items
+          (λ none. c.pop.ensures.rest ∙ ap (λ (n : ℕ). take (n - 1) c.in_ok-rows.rows.items) (rw none at c.pop.ensures.cases).0 ∙ take_none c.in_ok-rows.rows.items),
+    ))

@@ -19,13 +19,16 @@ not_false true is = refl
 not_false false is = sym is
 
 pub returns : goal.returns
-returns c = (λ is.
-    let items = three_items c.args.columns.now c.action-item.result c.label-item.result c.changeset-item.result c.in-len3.len_at_least c.in-len3.len_below c.action-item.is c.label-item.is c.changeset-item.is in
-    let one = sym c.as_str.ensures.value ∙ same_text c.as_str.result.now _ (sym (not_false _ (sym c.ne.ensures ∙ c.if-ne.false))) in
-    let two = sym c.as_str-2.ensures.value ∙ same_text c.as_str-2.result.now _ (sym (not_false _ (sym c.ne-2.ensures ∙ c.if-ne-2.false))) in
-    let three = sym c.as_str-3.ensures.value ∙ same_text c.as_str-3.result.now _ (sym is ∙ c.eq.ensures) in
-    ap (map string_bytes) items ∙ (λ i. one i ∷ two i ∷ three i ∷ []), λ same.
-    let items = three_items c.args.columns.now c.action-item.result c.label-item.result c.changeset-item.result c.in-len3.len_at_least c.in-len3.len_below c.action-item.is c.label-item.is c.changeset-item.is in
-    let texts : string_bytes c.action-item.result ∷ string_bytes c.label-item.result ∷ string_bytes c.changeset-item.result ∷ [] ≡ history_schema.columns = sym (ap (map string_bytes) items) ∙ same in
-    let third : string_bytes c.changeset-item.result ≡ codes "changeset" = cc in
-    c.eq.ensures ∙ rw (c.as_str-3.ensures.value ∙ third) refl)
+returns c = (
+  λ is.
+      let items = three_items c.args.columns.now c.action-item.result c.label-item.result c.changeset-item.result c.in-len3.len_at_least c.in-len3.len_below c.action-item.is c.label-item.is c.changeset-item.is in
+      let one = sym c.as_str.ensures.value ∙ same_text c.as_str.result.now _ (sym (not_false _ (sym c.ne.ensures ∙ c.if-ne.false))) in
+      let two = sym c.as_str-2.ensures.value ∙ same_text c.as_str-2.result.now _ (sym (not_false _ (sym c.ne-2.ensures ∙ c.if-ne-2.false))) in
+      let three = sym c.as_str-3.ensures.value ∙ same_text c.as_str-3.result.now _ (sym is ∙ c.eq.ensures) in
+      ap (map string_bytes) items ∙ (λ i. one i ∷ two i ∷ three i ∷ []),
+  λ same.
+      let items = three_items c.args.columns.now c.action-item.result c.label-item.result c.changeset-item.result c.in-len3.len_at_least c.in-len3.len_below c.action-item.is c.label-item.is c.changeset-item.is in
+      let texts : string_bytes c.action-item.result ∷ string_bytes c.label-item.result ∷ string_bytes c.changeset-item.result ∷ [] ≡ history_schema.columns = sym (ap (map string_bytes) items) ∙ same in
+      let third : string_bytes c.changeset-item.result ≡ codes "changeset" = cc in
+      c.eq.ensures ∙ rw (c.as_str-3.ensures.value ∙ third) refl,
+)
