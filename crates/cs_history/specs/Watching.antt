@@ -15,7 +15,7 @@ pub record IsWatched (tables : State) (table : AttachedTable) : Type 0 where
 -- each table is attached that is no history, and no other
 pub record Watches (tables : State) (notes : Notes) : Type 0 where
   pub each : All (IsWatched tables) notes
-  pub all : All (λ name. IsHistory tables name ⊎ Any (λ t. t.name ≡ name) notes) (map.keys tables)
+  pub all : All (λ name. (IsHistory tables name ⊎ (schema_at tables name ≡ None)) ⊎ Any (λ t. t.name ≡ name) notes) (map.keys tables)
 
 -- a table is attached, unless it is a history, or there is none
 abbrev pub MayAttach : State → List ℕ → Notes → Notes → Type 0

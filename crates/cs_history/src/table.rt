@@ -69,13 +69,20 @@ pub(crate) fn check_schema(schema: &Schema) -> Result<(), HistoryFault>
     ensures checked { IsTrue (is_ok result) ↔ (schema.now ≡ history_schema) }
     ensures named { IfErr result IsOther }
 {
-    if !are_names(schema.columns())
-        || schema.flags() != &FLAGS[..]
-        || schema.refuses() != &[true, true, true][..]
-    {
-        return Err(HistoryFault::NotHistory);
+    if is_history(schema) {
+        Ok(())
+    } else {
+        Err(HistoryFault::NotHistory)
     }
-    Ok(())
+}
+
+/// Returns whether a schema is that of a history.
+pub(crate) fn is_history(schema: &Schema) -> bool
+    ensures { IsTrue result ↔ (schema.now ≡ history_schema) }
+{
+    are_names(schema.columns())
+        && schema.flags() == &FLAGS[..]
+        && schema.refuses() == &[true, true, true][..]
 }
 
 /// Returns whether these are the names of the columns of a history.

@@ -9,7 +9,7 @@ ghost use Rattle.cs_history.specs.Stored.{IsHistory};
 ghost use Rattle.cs_history.specs.Watching.{IsWatched, MayAttach, Watches};
 
 use crate::fault::HistoryFault;
-use crate::table::check_schema;
+use crate::table::{check_schema, is_history};
 use cs_session::Session;
 use cs_store::Store;
 use sqlite::Alter;
@@ -64,7 +64,7 @@ fn watch_table<S: Alter>(
     let Some(schema) = store.schema(alloc, name)? else {
         return Ok(());
     };
-    if check_schema(&schema).is_ok() {
+    if is_history(&schema) {
         return Ok(());
     }
     session.attach(alloc, store, name)?;
