@@ -9,3 +9,4 @@ pub mod ForgetLemmas
 pub mod RunLemmas
 pub mod WorkLemmas
 pub mod FaultLemmas
+pub mod WatchLemmas

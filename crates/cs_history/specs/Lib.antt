@@ -5,6 +5,7 @@ pub mod Moving
 pub mod Carrying
 pub mod Runs
 pub mod Faults
+pub mod Watching
 pub use Rattle.cs_value.specs.State
 pub use Rattle.cs_apply_engine.specs.Running
 pub use Rattle.cs_session_notes.specs.FirstImages

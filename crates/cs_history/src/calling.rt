@@ -1,12 +1,11 @@
 //! The calls of a history that take no session.
-ghost use Rattle.std.specs.Prelude.{◌≡◌, IfErr, IsTrue};
+ghost use Rattle.std.specs.Prelude.{IfErr, IsTrue};
 ghost use Rattle.sqlite.specs.State.{HasCleanDisk};
 ghost use Rattle.sqlite.specs.Held.{state};
 ghost use Rattle.cs_store.specs.Store.{tables_in};
-ghost use Rattle.cs_history.specs.declared.fault.HistoryFault.TheVariants.{NothingLeft as NoActionLeft};
-ghost use Rattle.cs_history.specs.Calls.{CanCall, Does, HasNone};
+ghost use Rattle.cs_history.specs.Calls.{CanCall, Does, HasNone, IsForeign};
 ghost use Rattle.cs_history.specs.Carrying.{Carries, Works};
-ghost use Rattle.cs_history.specs.Faults.{IsConflict};
+ghost use Rattle.cs_history.specs.Faults.{IsTold};
 
 use crate::fault::HistoryFault;
 use crate::forgetting::forget;
@@ -58,12 +57,11 @@ pub fn call_in_transaction<S: Alter + Drop>(
 ) -> Result<(), HistoryFault>
     ensures done { Carries (λ _ old new. Does call name.now old new) (state S.Store transaction.old)
         (state S.Store transaction.new) result }
-    ensures left { HasCleanDisk (state S.Store transaction.new) → IsTrue (state S.Store transaction.old).in_transaction
-        → IfErr result (λ e. e ≡ NoActionLeft
-        → HasNone call name.now (tables_in (state S.Store transaction.old).now)) }
-    ensures clean { HasCleanDisk (state S.Store transaction.new)
-        → IsTrue (state S.Store transaction.old).in_transaction
-        → CanCall call name.now (tables_in (state S.Store transaction.old).now) → IfErr result (λ e. ¬ IsConflict e) }
+    ensures refused { HasCleanDisk (state S.Store transaction.new)
+        → IsTrue (state S.Store transaction.old).in_transaction → IfErr result (IsTold
+        (HasNone call name.now (tables_in (state S.Store transaction.old).now))
+        (¬ CanCall call name.now (tables_in (state S.Store transaction.old).now))
+        (IsForeign call name.now (tables_in (state S.Store transaction.old).now))) }
 {
     transaction.store_law();
     transaction.mark()?;
@@ -81,12 +79,11 @@ fn work<S: Alter + Drop>(
 ) -> Result<(), HistoryFault>
     ensures works { Works (λ _ old new. Does call name.now old new) (state S.Store transaction.old)
         (state S.Store transaction.new) result }
-    ensures left { HasCleanDisk (state S.Store transaction.new) → IsTrue (state S.Store transaction.old).in_transaction
-        → IfErr result (λ e. e ≡ NoActionLeft
-        → HasNone call name.now (tables_in (state S.Store transaction.old).now)) }
-    ensures clean { HasCleanDisk (state S.Store transaction.new)
-        → IsTrue (state S.Store transaction.old).in_transaction
-        → CanCall call name.now (tables_in (state S.Store transaction.old).now) → IfErr result (λ e. ¬ IsConflict e) }
+    ensures refused { HasCleanDisk (state S.Store transaction.new)
+        → IsTrue (state S.Store transaction.old).in_transaction → IfErr result (IsTold
+        (HasNone call name.now (tables_in (state S.Store transaction.old).now))
+        (¬ CanCall call name.now (tables_in (state S.Store transaction.old).now))
+        (IsForeign call name.now (tables_in (state S.Store transaction.old).now))) }
 {
     match call {
         HistoryCall::Open => open_table(alloc, transaction, name),

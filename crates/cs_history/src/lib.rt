@@ -9,8 +9,8 @@
 //!
 //! `acting` notes an action in a transaction, whose commit makes it last. `calling` has the calls that take no session,
 //! and `storing` the same on a store, each in a transaction of its own: `table` declares the table of a history,
-//! `turning` undoes and redoes an action, and `forgetting` drops the oldest. `rows` has the rows of the table, `fault`
-//! why a call is refused, and `laws` what holds of all runs.
+//! `turning` undoes and redoes an action, and `forgetting` drops the oldest. `watching` has the session of an action,
+//! `rows` the rows of the table, `fault` why a call is refused, and `laws` what holds of all runs.
 #![tactic(auto)]
 
 mod acting;
@@ -22,9 +22,11 @@ mod rows;
 mod storing;
 mod table;
 mod turning;
+mod watching;
 
 pub use acting::act_in_transaction;
 pub use calling::{HistoryCall, call_in_transaction};
 pub use fault::HistoryFault;
 pub use laws::{history_law, restores_law};
 pub use storing::call;
+pub use watching::watch;
