@@ -88,7 +88,8 @@ RedoesNext = Moves false
 
 -- ---- the oldest actions are forgotten
 
--- the newest of actions, which come first: at most so many, whose changesets have at most so many bytes
+-- The newest of actions, which come first: up to the one that would be one too many, or with which the changesets would
+-- have too many bytes.
 abbrev pub newest : ℕ → ℕ → List ActionData → List ActionData
 newest keep bytes [] = []
 newest zero bytes (action ∷ actions) = []

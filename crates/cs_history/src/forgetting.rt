@@ -18,8 +18,7 @@ use cs_value::Key;
 use sqlite::Alter;
 use std::alloc::Global;
 
-/// Drops the oldest actions that are done, so that at most `keep` of them are left, whose changesets have at most
-/// `bytes` bytes.
+/// Keeps the newest actions that are done, and drops the others: [`HistoryCall::Forget`](crate::HistoryCall::Forget).
 pub(crate) fn forget<S: Alter + Drop>(
     alloc: Global,
     transaction: &mut Transaction<S>,

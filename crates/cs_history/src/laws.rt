@@ -6,8 +6,8 @@ use cs_wire::changeset_files_law;
 
 /// Has no effect. Its contract says that a history stays sound over any run of its calls, if nothing else writes the
 /// tables: to revert the actions that are done, the last one first, meets no conflict and leads to the tables of the
-/// beginning, and to apply those that are undone, the next one first, meets none. If actions are forgotten, the beginning
-/// is where these led.
+/// beginning, and to apply those that are undone, the next one first, meets none. If actions are forgotten, the
+/// beginning is where these led.
 ///
 /// `empty`: a history without actions is sound. `runs`: a run keeps it sound. `moves`: an undo of it meets no
 /// conflict, nor does a redo. `forgets`: what a forgetting makes the beginning.
