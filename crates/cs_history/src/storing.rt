@@ -18,8 +18,8 @@ use std::alloc::Global;
 ///
 /// # Errors
 ///
-/// Those of [`call_in_transaction`], and `StoreFault` if a transaction of the store is open. Nothing has changed then, but
-/// if the disk fails within the commit, the files have the tables from before or those after the call.
+/// Those of [`call_in_transaction`], and `StoreFault` if a transaction of the store is open. Nothing has changed then,
+/// but if the disk fails within the commit, the files have the tables from before or those after the call.
 pub fn call<S: Alter + Drop>(
     alloc: Global,
     store: Store<S>,
