@@ -13,7 +13,7 @@ use Rattle.cs_apply_engine.specs.Running.{Leads}
 use Rattle.cs_session_notes.specs.Changes.{HasTables}
 use Rattle.cs_session_notes.specs.FirstImages.{IsNotes, Notes, HasAttached, recorded_changes, rewound_state}
 use Rattle.cs_session.proofs.ChangesLemmas.{before_is, changes_are, changes_clean, changes_applied}
-use Rattle.cs_history.specs.Stored.{ActionData, action_of, rows_of}
+use Rattle.cs_history.specs.Stored.{ActionData, IsHistory, action_of, rows_of}
 use Rattle.cs_history.specs.Actions.{others, Acts, Stays}
 use Rattle.cs_history.specs.Moving.{AddsRow}
 use Rattle.cs_history.proofs.ApartLemmas.{leads_apart, rows_stay}
@@ -35,24 +35,26 @@ module _ (s : State) (notes : Notes) (is : IsState s) (are : IsNotes notes) (has
   }
 
   -- without changes these are the same
-  pub stays : recorded_changes notes s ≡ [] → Stays (rewound_state notes s) s s
-  stays none =
+  pub stays : (name : List ℕ) → IsHistory s name → recorded_changes notes s ≡ [] → Stays name (rewound_state notes s) s s
+  stays name history none =
       let before = rewound_state notes s in
       record {
+        history = history;
         nothing = applied_once Reported before [] omit_all before s
             (record { schemas = λ table. refl; results = All-from_recursion _ [] tt; others = λ table key elsewhere. refl })
             (subst (λ (c : List GroupData). IsApplied before c omit_all s) none leads.applied);
         same = refl;
       }
 
-  pub acts : (name label : List ℕ) (action : ActionData) (mid new : State) → IsNewName (recorded_changes notes s) name → action.label ≡ label → action.changeset ≡ file_bytes (recorded_changes notes s)
+  pub acts : (name label : List ℕ) → IsHistory s name → (action : ActionData) (mid new : State) → IsNewName (recorded_changes notes s) name → action.label ≡ label → action.changeset ≡ file_bytes (recorded_changes notes s)
       → others mid name ≡ others s name → rows_of true (rows_at mid name) ≡ rows_of true (rows_at s name) → rows_of false (rows_at mid name) ≡ [] → AddsRow name action mid new
       → schema_at mid name ≡ schema_at s name → Acts name label (file_bytes (recorded_changes notes s)) (rewound_state notes s) s new
-  acts name label action mid new apart is_label is_file same done undone adds schema =
+  acts name label history action mid new apart is_label is_file same done undone adds schema =
       let file = file_bytes (recorded_changes notes s) in
       let actions : List (List ℕ × List OwnedValue) → List ActionData = λ es. map (λ e. action_of e.1) es in
       let noted : action ≡ record { label = label; changeset = file } = λ i. record { label = is_label i; changeset = is_file i } in
       record {
+        history = history;
         leads = leads_apart name file (rewound_state notes s) s leads apart;
         kept = rows_stay name file (rewound_state notes s) s leads apart;
         same = adds.same ∙ same;

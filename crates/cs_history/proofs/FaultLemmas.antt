@@ -1,5 +1,5 @@
 -- Which refusals of the layers below are another than a conflict, or that nothing is left.
-use Rattle.std.proofs.Common.{◌≡◌, ◌≢◌, inl, inr, Result, Ok, Err, IfErr, sym, subst}
+use Rattle.std.proofs.Common.{◌≡◌, inl, inr, false, Result, Ok, Err, IfErr, is_ok, refl, sym, subst}
 use Rattle.std.specs.Prelude.{IsErrAnd}
 use Rattle.cs_rows.specs.declared.fault.StoreError.{StoreError}
 use Rattle.cs_rows.specs.declared.fault.StoreError.TheVariants as store
@@ -8,7 +8,7 @@ use Rattle.cs_apply_engine.specs.declared.fault.ApplyFault.TheVariants as apply
 use Rattle.cs_apply_engine.specs.Running.{IsResource}
 use Rattle.cs_history.specs.declared.fault.HistoryFault.{HistoryFault}
 use Rattle.cs_history.specs.declared.fault.HistoryFault.TheVariants.{Store, Apply, WrongStore, NotHistory, NothingLeft, OwnTable, TooLarge, Damaged, NoMemory}
-use Rattle.cs_history.specs.Faults.{IsConflict, IsOther, apply_fault, store_fault}
+use Rattle.cs_history.specs.Faults.{IsOther, IsTold, apply_fault, store_fault}
 
 store_other : (error : StoreError) → IsOther (store_fault error)
 store_other store.NoMemory = tt
@@ -28,18 +28,18 @@ pub store_named : {X : Type 0} (r : Result X HistoryFault) (error : StoreError) 
 store_named (Ok x) error is = tt
 store_named (Err e) error is = subst IsOther (sym is) (store_other error)
 
-apply_left : (fault : ApplyFault) → apply_fault fault ≢ NothingLeft
-apply_left (apply.Read f) is = cc
-apply_left (apply.Wider place) is = cc
-apply_left (apply.Abort k) is = cc
-apply_left (apply.Misuse k) is = cc
-apply_left (apply.Store e) is = cc
-apply_left apply.NoMemory is = cc
+apply_told : (fault : ApplyFault) → IsTold ⊥ (Unit {0}) ⊥ (apply_fault fault)
+apply_told (apply.Read f) = tt
+apply_told (apply.Wider place) = tt
+apply_told (apply.Abort k) = tt
+apply_told (apply.Misuse k) = tt
+apply_told (apply.Store e) = tt
+apply_told apply.NoMemory = tt
 
--- what an apply refuses is not that nothing is left
-pub apply_named : {X : Type 0} (r : Result X HistoryFault) (fault : ApplyFault) → IsErrAnd r (λ e. e ≡ apply_fault fault) → IfErr r (λ e. e ≢ NothingLeft)
+-- what an apply refuses may be a fault of the changeset
+pub apply_named : {X : Type 0} (r : Result X HistoryFault) (fault : ApplyFault) → IsErrAnd r (λ e. e ≡ apply_fault fault) → IfErr r (IsTold ⊥ (Unit {0}) ⊥)
 apply_named (Ok x) fault is = tt
-apply_named (Err e) fault is = subst (λ (e : HistoryFault). e ≢ NothingLeft) (sym is) (apply_left fault)
+apply_named (Err e) fault is = subst (IsTold ⊥ (Unit {0}) ⊥) (sym is) (apply_told fault)
 
 resource_other : (fault : ApplyFault) → IsResource fault → IsOther (apply_fault fault)
 resource_other fault (inl memory) = subst (λ (f : ApplyFault). IsOther (apply_fault f)) (sym memory) tt
@@ -55,33 +55,47 @@ pub resource_named : {X : Type 0} (r : Result X HistoryFault) (fault : ApplyFaul
 resource_named (Ok x) fault is resource = tt
 resource_named (Err e) fault is resource = subst IsOther (sym is) (resource_other fault resource)
 
--- ---- what another refusal is not
+-- ---- what a refusal says
 
-not_left : (e : HistoryFault) → IsOther e → e ≢ NothingLeft
-not_left e other is = subst IsOther is other
+told_so : {A B C D E F : Type 0} → (A → D) → (B → E) → (C → F) → (e : HistoryFault) → IsTold A B C e → IsTold D E F e
+told_so a b c NothingLeft told = a told
+told_so a b c (Apply fault) told = b told
+told_so a b c NotHistory told = c told
+told_so a b c (Store error) told = tt
+told_so a b c WrongStore told = absurd told
+told_so a b c OwnTable told = absurd told
+told_so a b c TooLarge told = tt
+told_so a b c Damaged told = tt
+told_so a b c NoMemory told = tt
 
-no_conflict : (e : HistoryFault) → IsOther e → ¬ IsConflict e
-no_conflict (Apply fault) other conflict = other
-no_conflict (Store error) other conflict = conflict
-no_conflict WrongStore other conflict = conflict
-no_conflict NotHistory other conflict = conflict
-no_conflict NothingLeft other conflict = conflict
-no_conflict OwnTable other conflict = conflict
-no_conflict TooLarge other conflict = conflict
-no_conflict Damaged other conflict = conflict
-no_conflict NoMemory other conflict = conflict
+pub told_weaker : {X A B C D E F : Type 0} → (A → D) → (B → E) → (C → F) → (r : Result X HistoryFault) → IfErr r (IsTold A B C) → IfErr r (IsTold D E F)
+told_weaker a b c (Ok x) told = tt
+told_weaker a b c (Err e) told = told_so a b c e told
 
-pub other_left : {X : Type 0} (P : Type 0) (r : Result X HistoryFault) → IfErr r IsOther → IfErr r (λ e. e ≡ NothingLeft → P)
-other_left P (Ok x) named = tt
-other_left P (Err e) named = λ left. absurd (not_left e named left)
+never : {A : Type 0} → ⊥ → A
+never none = absurd none
 
-pub named_left : {X : Type 0} (P : Type 0) (r : Result X HistoryFault) → IfErr r (λ e. e ≢ NothingLeft) → IfErr r (λ e. e ≡ NothingLeft → P)
-named_left P (Ok x) named = tt
-named_left P (Err e) named = λ left. absurd (named left)
+-- it says none of what it might
+pub other_told : {X : Type 0} (A B C : Type 0) (r : Result X HistoryFault) → IfErr r IsOther → IfErr r (IsTold A B C)
+other_told A B C = told_weaker never never never
 
-pub other_clean : {X : Type 0} (r : Result X HistoryFault) → IfErr r IsOther → IfErr r (λ e. ¬ IsConflict e)
-other_clean (Ok x) named = tt
-other_clean (Err e) named = no_conflict e named
+-- a table is refused only as no history
+pub foreign_told : {X : Type 0} (A B C : Type 0) (r : Result X HistoryFault) → IfErr r (λ e. e ≡ NotHistory) → (is_ok r ≡ false → C) → IfErr r (IsTold A B C)
+foreign_told A B C (Ok x) named so = tt
+foreign_told A B C (Err e) named so = subst (IsTold A B C) (sym named) (so refl)
+
+-- a changeset has a fault only if it does not lead back, or on
+pub fault_told : {X Can : Type 0} (A C : Type 0) (r : Result X HistoryFault) → IfErr r (IsTold ⊥ (Unit {0}) ⊥) → (Can → IfErr r IsOther) → IfErr r (IsTold A (¬ Can) C)
+fault_told A C (Ok x) told clean = tt
+fault_told A C (Err NothingLeft) told clean = absurd told
+fault_told A C (Err (Apply fault)) told clean = clean
+fault_told A C (Err NotHistory) told clean = absurd told
+fault_told A C (Err (Store error)) told clean = tt
+fault_told A C (Err WrongStore) told clean = absurd told
+fault_told A C (Err OwnTable) told clean = absurd told
+fault_told A C (Err TooLarge) told clean = tt
+fault_told A C (Err Damaged) told clean = tt
+fault_told A C (Err NoMemory) told clean = tt
 
 -- an error that is passed on
 pub passed_on : {X : Type 0} (P : HistoryFault → Type 0) (r : Result X HistoryFault) (e : HistoryFault) → IsErrAnd r (λ f. f ≡ e) → P e → IfErr r P

@@ -18,7 +18,7 @@ use Rattle.cs_history.specs.Stored.{ActionData, IsHistory, action_of, actions_of
 use Rattle.cs_history.specs.Actions.{Forgets, newest}
 use Rattle.cs_history.specs.Moving.{Divides, DropsAfter, IsNextAfter, Keeps, RemovesRow, key_of, rows_after, rows_up_to}
 use Rattle.cs_history.proofs.FirstLemmas.{after_less, entry_first, less_of}
-use Rattle.cs_history.proofs.SideLemmas.{left_of, right_of, sorted, first_there, removed_other}
+use Rattle.cs_history.proofs.SideLemmas.{left_of, right_of, sorted, first_there, kept_row, removed_other}
 
 abbrev order : List ℕ → List ℕ → Ordering
 order = slice_cmp nat_cmp
@@ -253,12 +253,14 @@ module _ (key name : List ℕ) where
         stay = ap (rows_up_to key) gone.held ∙ removed_other (λ k. not (is_above key k)) (rows_at mid name) (key_of row) (ap not above) ∙ it.stay;
       }
 
-  pub forgets : (keep bytes : ℕ) (old new : State) → DropsAfter key name old new → rows_after key (rows_at new name) ≡ [] → Keeps keep bytes key (rows_at old name) → Forgets keep bytes name old new
-  forgets keep bytes old new it none keeps =
+  pub forgets : (keep bytes : ℕ) (old new : State) → IsHistory old name → DropsAfter key name old new → rows_after key (rows_at new name) ≡ [] → Keeps keep bytes key (rows_at old name) → Forgets keep bytes name old new
+  forgets keep bytes old new history it none keeps =
       let left : entries (rows_at new name) ≡ rows_up_to key (rows_at old name) = sym (none_pass (is_above key) (entries (rows_at new name)) none) ∙ it.stay in
       record {
-        history = it.history;
+        history = history;
+        schema = it.history ∙ sym history;
         same = it.same;
+        stay = kept_row (λ k. not (is_above key k)) (rows_at old name) (rows_at new name) left;
         done = ap actions (ap (filter (λ e. is_of true e.0)) left ∙ filter_swap (is_of true) (λ k. not (is_above key k)) (entries (rows_at old name)) ∙ keeps.1.before) ∙ sym keeps.2;
         undone = ap actions (ap (filter (λ e. is_of false e.0)) left ∙ filter_twice (is_of false) (λ k. not (is_above key k)) up_to (entries (rows_at old name)));
       }

@@ -131,3 +131,16 @@ module _ {X : Type 0} (p : List ℕ → Bool) where
       at : (b : Bool) → p k ≡ b → (get m k ≡ Some v) × (p k ≡ true)
       at true is = (ap (λ (b : Bool). cond b (get m k) None) (sym is) ∙ found, is)
       at false is = absurd (none-some v (ap (λ (b : Bool). cond b (get m k) None) (sym is) ∙ found))
+
+  -- ---- a map of those that pass
+
+  -- each of its entries is one of the other map
+  pub kept_row : (m n : ByBytes X) → entries n ≡ passing m → (k : List ℕ) (v : X) → get n k ≡ Some v → get m k ≡ Some v
+  kept_row m n same k v there = at (p k) refl
+    where
+      found : cond (p k) (get m k) None ≡ Some v
+      found = sym (part_get m k) ∙ get-entries (part m) k ∙ ap (find order k) (part_entries m ∙ sym same) ∙ sym (get-entries n k) ∙ there
+
+      at : (b : Bool) → p k ≡ b → get m k ≡ Some v
+      at true is = ap (λ (b : Bool). cond b (get m k) None) (sym is) ∙ found
+      at false is = absurd (none-some v (ap (λ (b : Bool). cond b (get m k) None) (sym is) ∙ found))

@@ -63,6 +63,7 @@ module _ (s : State) (name : List ℕ) (is : IsState s) (history : IsHistory s n
       let stays = ran_schema done (action_of row).changeset mid ran in
       let moves = move (stays ∙ history) in
       record {
+        history = history;
         action = action_of row;
         rest = map (λ e. action_of e.1) entry.0;
         first = ap (map (λ e. action_of e.1)) entry.1;

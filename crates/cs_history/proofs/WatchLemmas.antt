@@ -1,13 +1,12 @@
 -- Tables that are attached one after another, but for histories.
-use Rattle.std.proofs.Common.{◌≡◌, ◌⊎◌, inl, inr, ℕ, List, [], ◌∷◌, ◌++◌, None, Some, refl, sym, ap, ◌∙◌, arith}
+use Rattle.std.proofs.Common.{◌≡◌, ◌⊎◌, inl, inr, ℕ, List, [], ◌∷◌, ◌++◌, None, refl, arith}
 use Rattle.std.proofs.lemmas.Grind.{common_steps}
 use Rattle.std.specs.Prelude.{All, Any, slice_index_or}
 use Rattle.std.proofs.lemmas.List.Elements.{All-append, All-cons, All-nil}
 use Rattle.std.proofs.lemmas.List.Quantifiers.{Any-push}
-use Rattle.std.proofs.lemmas.Option.{none-some}
 use Rattle.cs_value.specs.State.{State, schema_at}
 use Rattle.cs_session_notes.specs.FirstImages.{AttachedTable, Notes}
-use Rattle.cs_history.specs.Stored.{IsHistory, history_schema}
+use Rattle.cs_history.specs.Stored.{IsHistory}
 use Rattle.cs_history.specs.Watching.{IsWatched, MayAttach, Watches}
 use Rattle.std.specs.FinMap as map
 

@@ -1,6 +1,7 @@
 -- What the calls of a history do.
-use Rattle.std.specs.Prelude.{◌≡◌, ◌≢◌, ◌-◌, if◌then◌else◌, leb, ℕ, zero, suc, Bool, true, false, not, List, [], ◌∷◌, length, All}
+use Rattle.std.specs.Prelude.{◌≡◌, ◌≢◌, ◌-◌, if◌then◌else◌, leb, ℕ, zero, suc, Bool, true, false, not, List, [], ◌∷◌, length, All, Some}
 use Rattle.std.specs.FinMap as map
+use Rattle.cs_value.specs.declared.value.OwnedValue.{OwnedValue}
 use Rattle.cs_value.specs.State.{State, rows_at, schema_at}
 use Rattle.cs_wire.specs.Changeset.{GroupData, file_bytes}
 use Rattle.cs_apply_conflict_kinds.specs.declared.conflict.Noop.TheVariants.{Report}
@@ -23,6 +24,7 @@ pub record LeadsApart (name file : List ℕ) (before after : State) : Type 0 whe
 -- Its changeset leads from the tables before the action to those now, `old`. It is the last one that is done, and none
 -- is undone any more.
 pub record Acts (name label changeset : List ℕ) (before old new : State) : Type 0 where
+  pub history : IsHistory old name
   pub leads : LeadsApart name changeset (others before name) (others old name)
   pub kept : rows_at before name ≡ rows_at old name
   pub same : others new name ≡ others old name
@@ -31,14 +33,15 @@ pub record Acts (name label changeset : List ℕ) (before old new : State) : Typ
   pub undone : undone_actions new name ≡ []
 
 -- the tables are those from before, and nothing is noted
-pub record Stays (before old new : State) : Type 0 where
+pub record Stays (name : List ℕ) (before old new : State) : Type 0 where
+  pub history : IsHistory old name
   pub nothing : before ≡ old
   pub same : new ≡ old
 
 -- if there are changes, they are noted, and the answer says whether there are
 abbrev pub Notes : List ℕ → List ℕ → List GroupData → State → Bool → State → State → Type 0
 Notes name label changes before true old new = (changes ≢ []) × Acts name label (file_bytes changes) before old new
-Notes name label changes before false old new = (changes ≡ []) × Stays before old new
+Notes name label changes before false old new = (changes ≡ []) × Stays name before old new
 
 -- ---- an action is undone, or done again
 
@@ -57,6 +60,7 @@ Runs false file old new = AppliesInto AlwaysAborts Report file Forward old new
 -- on, without that table, the other tables are those to which it leads, and the action is the first one of the other
 -- side.
 pub record Moves (done : Bool) (name : List ℕ) (old new : State) : Type 0 where
+  pub history : IsHistory old name
   pub action : ActionData
   pub rest : List ActionData
   pub first : actions_of done (rows_at old name) ≡ action ∷ rest
@@ -84,16 +88,21 @@ RedoesNext = Moves false
 
 -- ---- the oldest actions are forgotten
 
--- the newest of actions, which come first: at most so many, whose changesets have at most so many bytes
+-- The newest of actions, which come first: up to the one that would be one too many, or with which the changesets would
+-- have too many bytes.
 abbrev pub newest : ℕ → ℕ → List ActionData → List ActionData
 newest keep bytes [] = []
 newest zero bytes (action ∷ actions) = []
 newest (suc keep) bytes (action ∷ actions) =
     if leb (length action.changeset) bytes then action ∷ newest keep (bytes - length action.changeset) actions else []
 
--- of those that are done only the newest are left, and all else is as it was
+-- Of the actions that are done only the newest are left. Those that are undone, other tables, and each row that is left are
+-- as they were.
 pub record Forgets (keep bytes : ℕ) (name : List ℕ) (old new : State) : Type 0 where
-  pub history : IsHistory new name
+  pub history : IsHistory old name
+  pub schema : schema_at new name ≡ schema_at old name
   pub same : others new name ≡ others old name
   pub done : done_actions new name ≡ newest keep bytes (done_actions old name)
   pub undone : undone_actions new name ≡ undone_actions old name
+  pub stay : (key : List ℕ) (row : List OwnedValue) → map.get (rows_at new name) key ≡ Some row
+      → map.get (rows_at old name) key ≡ Some row

@@ -1,9 +1,10 @@
 -- The calls of a history that take no session.
-use Rattle.std.specs.Prelude.{◌≡◌, ℕ, true, false, List, []}
+use Rattle.std.specs.Prelude.{◌≡◌, ◌≢◌, ℕ, true, false, List, [], None}
+use Rattle.std.specs.FinMap as map
 use Rattle.cs_value.specs.State.{State}
 use Rattle.cs_history.specs.declared.calling.HistoryCall.{HistoryCall}
 use Rattle.cs_history.specs.declared.calling.HistoryCall.TheVariants.{Open, Undo, Redo, Forget}
-use Rattle.cs_history.specs.Stored.{Opens, done_actions, undone_actions}
+use Rattle.cs_history.specs.Stored.{IsHistory, Opens, done_actions, undone_actions}
 use Rattle.cs_history.specs.Actions.{CanMove, Forgets, RedoesNext, UndoesLast}
 
 -- the tables before a call and after it
@@ -18,6 +19,11 @@ abbrev pub HasNone : HistoryCall → List ℕ → State → Type 0
 HasNone Undo name now = done_actions now name ≡ []
 HasNone Redo name now = undone_actions now name ≡ []
 HasNone call name now = ⊥
+
+-- the table is not a history; a call that opens one is refused so only if there is a table
+abbrev pub IsForeign : HistoryCall → List ℕ → State → Type 0
+IsForeign Open name now = (¬ IsHistory now name) × (map.get now name ≢ None)
+IsForeign call name now = ¬ IsHistory now name
 
 -- the changeset that it runs, if it runs one, leads back, or on
 abbrev pub CanCall : HistoryCall → List ℕ → State → Type 0

@@ -26,16 +26,19 @@ session_fault (session.Store error) = Store error
 session_fault (session.Apply fault) = Apply fault
 session_fault fault = WrongStore
 
--- a conflict, or another fault of a changeset
-abbrev pub IsConflict : HistoryFault → Type 0
-IsConflict (Apply fault) = Unit {0}
-IsConflict fault = ⊥
+-- A call is refused with these three only so: no action is left, a changeset has a conflict or another fault, or the table
+-- is not a history. The others are those of the store, of memory, and Damaged and TooLarge.
+abbrev pub IsTold : Type 0 → Type 0 → Type 0 → HistoryFault → Type 0
+IsTold none conflict foreign NothingLeft = none
+IsTold none conflict foreign (Apply fault) = conflict
+IsTold none conflict foreign NotHistory = foreign
+IsTold none conflict foreign WrongStore = ⊥
+IsTold none conflict foreign OwnTable = ⊥
+IsTold none conflict foreign fault = Unit {0}
 
--- neither that, nor that no action is left
+-- it says none of these
 abbrev pub IsOther : HistoryFault → Type 0
-IsOther (Apply fault) = ⊥
-IsOther NothingLeft = ⊥
-IsOther fault = Unit {0}
+IsOther = IsTold ⊥ ⊥ ⊥
 
 -- ---- numbers and names
 

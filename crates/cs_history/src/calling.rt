@@ -1,12 +1,11 @@
 //! The calls of a history that take no session.
-ghost use Rattle.std.specs.Prelude.{◌≡◌, IfErr, IsTrue};
+ghost use Rattle.std.specs.Prelude.{IfErr, IsTrue};
 ghost use Rattle.sqlite.specs.State.{HasCleanDisk};
 ghost use Rattle.sqlite.specs.Held.{state};
 ghost use Rattle.cs_store.specs.Store.{tables_in};
-ghost use Rattle.cs_history.specs.declared.fault.HistoryFault.TheVariants.{NothingLeft as NoActionLeft};
-ghost use Rattle.cs_history.specs.Calls.{CanCall, Does, HasNone};
+ghost use Rattle.cs_history.specs.Calls.{CanCall, Does, HasNone, IsForeign};
 ghost use Rattle.cs_history.specs.Carrying.{Carries, Works};
-ghost use Rattle.cs_history.specs.Faults.{IsConflict};
+ghost use Rattle.cs_history.specs.Faults.{IsTold};
 
 use crate::fault::HistoryFault;
 use crate::forgetting::forget;
@@ -28,25 +27,27 @@ pub enum HistoryCall {
     Undo,
     /// Applies the changeset of the action that was undone last, and notes that it is done.
     Redo,
-    /// Drops the oldest actions that are done: at most `keep` of them are left, whose changesets have at most `bytes`
-    /// bytes. Those that are undone stay.
+    /// Keeps the newest actions that are done, from the last one on, and drops the others. It stops before the one that
+    /// would be more than `keep`, or with which their changesets would have more than `bytes` bytes. For one limit
+    /// alone, give `u64::MAX` as the other. What is undone stays, and is not counted.
     Forget { keep: u64, bytes: u64 },
 }
 
 /// Carries out a call of a history in a transaction. Nothing is committed.
 ///
-/// Changes of tables that are not there, or have another key, are passed over, as by
-/// [`revert_in_transaction`](cs_apply::revert_in_transaction).
+/// An undo or a redo passes over changes of tables that are not there, or have fewer columns or another key, as each
+/// apply does.
 ///
 /// # Errors
 ///
 /// [`NotHistory`](HistoryFault::NotHistory) if the table is not a history: if no table has the name, but for `Open`, or
 /// if it has other columns, another key or other rules for NULL.
 /// [`BadSchema`](cs_store::StoreError::BadSchema) from `Open` if no table can have the name.
-/// [`NothingLeft`](HistoryFault::NothingLeft) if no action is done that `Undo` undoes, or none undone that `Redo` does.
-/// [`Apply`](HistoryFault::Apply) with the first conflict from these two if rows were changed since the action, or if a
-/// table has more columns now. If another program has changed the row of the action, its changeset may not be one:
-/// `Apply` too, or [`Damaged`](HistoryFault::Damaged) or [`TooLarge`](HistoryFault::TooLarge).
+/// [`NothingLeft`](HistoryFault::NothingLeft) from `Undo` if no action is done, and from `Redo` if none is undone.
+/// [`Apply`](HistoryFault::Apply) from these two: with the first conflict if other edits have changed the rows, or if a
+/// table has more columns now, or if another program has written a changeset that is none.
+/// [`Damaged`](HistoryFault::Damaged) if another program has written a number or a changeset of another type into a row
+/// that is read, and [`TooLarge`](HistoryFault::TooLarge) if a number that it has written leaves no place.
 /// `StoreFault` or `NoMemory` if the transaction has ended, the database refuses or memory runs out. If the disk does
 /// not return what was written, [`DamagedStore`](cs_store::StoreError::DamagedStore) or any of these. After a refusal
 /// the transaction shows what it showed before, or it has ended and the store is as it was when it began.
@@ -58,12 +59,11 @@ pub fn call_in_transaction<S: Alter + Drop>(
 ) -> Result<(), HistoryFault>
     ensures done { Carries (λ _ old new. Does call name.now old new) (state S.Store transaction.old)
         (state S.Store transaction.new) result }
-    ensures left { HasCleanDisk (state S.Store transaction.new) → IsTrue (state S.Store transaction.old).in_transaction
-        → IfErr result (λ e. e ≡ NoActionLeft
-        → HasNone call name.now (tables_in (state S.Store transaction.old).now)) }
-    ensures clean { HasCleanDisk (state S.Store transaction.new)
-        → IsTrue (state S.Store transaction.old).in_transaction
-        → CanCall call name.now (tables_in (state S.Store transaction.old).now) → IfErr result (λ e. ¬ IsConflict e) }
+    ensures refused { HasCleanDisk (state S.Store transaction.new)
+        → IsTrue (state S.Store transaction.old).in_transaction → IfErr result (IsTold
+        (HasNone call name.now (tables_in (state S.Store transaction.old).now))
+        (¬ CanCall call name.now (tables_in (state S.Store transaction.old).now))
+        (IsForeign call name.now (tables_in (state S.Store transaction.old).now))) }
 {
     transaction.store_law();
     transaction.mark()?;
@@ -81,12 +81,11 @@ fn work<S: Alter + Drop>(
 ) -> Result<(), HistoryFault>
     ensures works { Works (λ _ old new. Does call name.now old new) (state S.Store transaction.old)
         (state S.Store transaction.new) result }
-    ensures left { HasCleanDisk (state S.Store transaction.new) → IsTrue (state S.Store transaction.old).in_transaction
-        → IfErr result (λ e. e ≡ NoActionLeft
-        → HasNone call name.now (tables_in (state S.Store transaction.old).now)) }
-    ensures clean { HasCleanDisk (state S.Store transaction.new)
-        → IsTrue (state S.Store transaction.old).in_transaction
-        → CanCall call name.now (tables_in (state S.Store transaction.old).now) → IfErr result (λ e. ¬ IsConflict e) }
+    ensures refused { HasCleanDisk (state S.Store transaction.new)
+        → IsTrue (state S.Store transaction.old).in_transaction → IfErr result (IsTold
+        (HasNone call name.now (tables_in (state S.Store transaction.old).now))
+        (¬ CanCall call name.now (tables_in (state S.Store transaction.old).now))
+        (IsForeign call name.now (tables_in (state S.Store transaction.old).now))) }
 {
     match call {
         HistoryCall::Open => open_table(alloc, transaction, name),

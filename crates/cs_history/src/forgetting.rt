@@ -1,10 +1,12 @@
 //! Actions that are forgotten.
-ghost use Rattle.std.specs.Prelude.{◌≡◌, [], IfErr};
+ghost use Rattle.std.specs.Prelude.{◌≡◌, [], IfErr, IsTrue};
+ghost use Rattle.sqlite.specs.State.{HasCleanDisk};
 ghost use Rattle.sqlite.specs.Held.{state};
 ghost use Rattle.cs_value.specs.State.{rows_at};
+ghost use Rattle.cs_store.specs.Store.{tables_in};
 ghost use Rattle.cs_history.specs.Actions.{Forgets};
 ghost use Rattle.cs_history.specs.Carrying.{Works};
-ghost use Rattle.cs_history.specs.Faults.{IsOther};
+ghost use Rattle.cs_history.specs.Faults.{IsOther, IsTold};
 ghost use Rattle.cs_history.specs.Moving.{DropsAfter, Keeps, rows_after};
 ghost use Rattle.cs_history.specs.Stored.{IsHistory};
 
@@ -16,8 +18,7 @@ use cs_value::Key;
 use sqlite::Alter;
 use std::alloc::Global;
 
-/// Drops the oldest actions that are done, so that at most `keep` of them are left, whose changesets have at most
-/// `bytes` bytes.
+/// Keeps the newest actions that are done, and drops the others: [`HistoryCall::Forget`](crate::HistoryCall::Forget).
 pub(crate) fn forget<S: Alter + Drop>(
     alloc: Global,
     transaction: &mut Transaction<S>,
@@ -27,7 +28,9 @@ pub(crate) fn forget<S: Alter + Drop>(
 ) -> Result<(), HistoryFault>
     ensures works { Works (λ _ old new. Forgets keep bytes name.now old new) (state S.Store transaction.old)
         (state S.Store transaction.new) result }
-    ensures named { IfErr result IsOther }
+    ensures refused { HasCleanDisk (state S.Store transaction.new)
+        → IsTrue (state S.Store transaction.old).in_transaction → IfErr result (IsTold ⊥ ⊥
+        (¬ IsHistory (tables_in (state S.Store transaction.old).now) name.now)) }
 {
     check_table(alloc, transaction, name)?;
     let last = last_kept(alloc, transaction, name, keep, bytes)?;

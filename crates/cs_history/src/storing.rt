@@ -1,12 +1,11 @@
 //! Calls of a history on a store, each in a transaction of its own.
-ghost use Rattle.std.specs.Prelude.{◌≡◌, IfErr, OnOk};
+ghost use Rattle.std.specs.Prelude.{IfErr, OnOk};
 ghost use Rattle.sqlite.specs.State.{HasCleanDisk};
 ghost use Rattle.sqlite.specs.Held.{state};
 ghost use Rattle.cs_store.specs.Store.{tables_in};
 ghost use Rattle.cs_store.specs.Transacts.{Transacts};
-ghost use Rattle.cs_history.specs.declared.fault.HistoryFault.TheVariants.{NothingLeft as NoActionLeft};
-ghost use Rattle.cs_history.specs.Calls.{CanCall, Does, HasNone};
-ghost use Rattle.cs_history.specs.Faults.{IsConflict};
+ghost use Rattle.cs_history.specs.Calls.{CanCall, Does, HasNone, IsForeign};
+ghost use Rattle.cs_history.specs.Faults.{IsTold};
 
 use crate::calling::{HistoryCall, call_in_transaction};
 use crate::fault::HistoryFault;
@@ -19,8 +18,8 @@ use std::alloc::Global;
 ///
 /// # Errors
 ///
-/// Those of [`call_in_transaction`]. Nothing has changed then. If the disk fails within the commit, the files have the
-/// tables from before or those after the call.
+/// Those of [`call_in_transaction`], and `StoreFault` if a transaction of the store is open. Nothing has changed then,
+/// but if the disk fails within the commit, the files have the tables from before or those after the call.
 pub fn call<S: Alter + Drop>(
     alloc: Global,
     store: Store<S>,
@@ -31,10 +30,10 @@ pub fn call<S: Alter + Drop>(
         (state S.Store store) (state S.Store result.0) result.1 }
     ensures done { HasCleanDisk (state S.Store result.0) → OnOk result.1 (Does call name.now
         (tables_in (state S.Store store).now) (tables_in (state S.Store result.0).now)) }
-    ensures left { HasCleanDisk (state S.Store result.0) → IfErr result.1 (λ e. e ≡ NoActionLeft
-        → HasNone call name.now (tables_in (state S.Store store).now)) }
-    ensures clean { HasCleanDisk (state S.Store result.0) → CanCall call name.now (tables_in (state S.Store store).now)
-        → IfErr result.1 (λ e. ¬ IsConflict e) }
+    ensures refused { HasCleanDisk (state S.Store result.0) → IfErr result.1 (IsTold
+        (HasNone call name.now (tables_in (state S.Store store).now))
+        (¬ CanCall call name.now (tables_in (state S.Store store).now))
+        (IsForeign call name.now (tables_in (state S.Store store).now))) }
 {
     store.crash_law();
     let mut transaction = match store.into_transaction() {

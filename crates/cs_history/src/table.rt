@@ -1,9 +1,14 @@
 //! The table of a history, and its rows.
 ghost use Rattle.std.specs.Prelude.{◌≡◌, ◌↔◌, Ok, IfOk, IfErr, IsTrue, is_ok, map, string_bytes};
+ghost use Rattle.sqlite.specs.State.{HasCleanDisk};
 ghost use Rattle.sqlite.specs.Held.{state};
 ghost use Rattle.cs_value.specs.State.{schema_at};
 ghost use Rattle.cs_rows.specs.Editing.{Declares};
-ghost use Rattle.cs_history.specs.Faults.{IsOther};
+ghost use Rattle.cs_store.specs.Store.{tables_in};
+ghost use Rattle.cs_history.specs.declared.calling.HistoryCall.TheVariants.{Open as OpenCall};
+ghost use Rattle.cs_history.specs.declared.fault.HistoryFault.TheVariants.{NotHistory as NotAHistory};
+ghost use Rattle.cs_history.specs.Calls.{IsForeign};
+ghost use Rattle.cs_history.specs.Faults.{IsOther, IsTold};
 ghost use Rattle.cs_history.specs.Carrying.{Works};
 ghost use Rattle.cs_history.specs.Stored.{IsHistory, Opens, history_schema};
 
@@ -27,7 +32,9 @@ pub(crate) fn open_table<S: Alter + Drop>(
 ) -> Result<(), HistoryFault>
     ensures works { Works (λ _ old new. Opens name.now old new) (state S.Store transaction.old)
         (state S.Store transaction.new) result }
-    ensures named { IfErr result IsOther }
+    ensures refused { HasCleanDisk (state S.Store transaction.new)
+        → IsTrue (state S.Store transaction.old).in_transaction → IfErr result (IsTold ⊥ ⊥
+        (IsForeign OpenCall name.now (tables_in (state S.Store transaction.old).now))) }
 {
     match find_schema(alloc, transaction, name)? {
         Some(schema) => check_schema(&schema),
@@ -43,7 +50,9 @@ pub(crate) fn check_table<S: Alter + Drop>(
 ) -> Result<(), HistoryFault>
     ensures works { Works (λ _ old new. (new ≡ old) × IsHistory old name.now) (state S.Store transaction.old)
         (state S.Store transaction.new) result }
-    ensures named { IfErr result IsOther }
+    ensures refused { HasCleanDisk (state S.Store transaction.new)
+        → IsTrue (state S.Store transaction.old).in_transaction → IfErr result (IsTold ⊥ ⊥
+        (¬ IsHistory (tables_in (state S.Store transaction.old).now) name.now)) }
 {
     match find_schema(alloc, transaction, name)? {
         Some(schema) => check_schema(&schema),
@@ -67,7 +76,7 @@ fn find_schema<S: Alter + Drop>(
 /// Checks that a schema is that of a history.
 pub(crate) fn check_schema(schema: &Schema) -> Result<(), HistoryFault>
     ensures checked { IsTrue (is_ok result) ↔ (schema.now ≡ history_schema) }
-    ensures named { IfErr result IsOther }
+    ensures named { IfErr result (λ e. e ≡ NotAHistory) }
 {
     if is_history(schema) {
         Ok(())

@@ -1,16 +1,15 @@
 //! Actions that are undone, and done again.
-ghost use Rattle.std.specs.Prelude.{◌≡◌, ◌≢◌, [], true, false, IfErr, IsTrue};
+ghost use Rattle.std.specs.Prelude.{◌≡◌, [], true, false, IfErr, IsTrue};
 ghost use Rattle.sqlite.specs.State.{HasCleanDisk};
 ghost use Rattle.sqlite.specs.Held.{state};
 ghost use Rattle.cs_value.specs.State.{State, rows_at};
 ghost use Rattle.cs_apply_engine.specs.Running.{Leads};
 ghost use Rattle.cs_store.specs.Store.{tables_in};
-ghost use Rattle.cs_history.specs.declared.fault.HistoryFault.TheVariants.{NothingLeft as NoActionLeft};
 ghost use Rattle.cs_history.specs.Actions.{CanMove, Moves, Runs};
 ghost use Rattle.cs_history.specs.Carrying.{Works};
-ghost use Rattle.cs_history.specs.Faults.{IsConflict, IsOther};
+ghost use Rattle.cs_history.specs.Faults.{IsOther, IsTold};
 ghost use Rattle.cs_history.specs.Moving.{Turning};
-ghost use Rattle.cs_history.specs.Stored.{actions_of};
+ghost use Rattle.cs_history.specs.Stored.{IsHistory, actions_of};
 
 use crate::fault::HistoryFault;
 use crate::rows::{changeset_of, first_row, move_row};
@@ -31,12 +30,11 @@ pub(crate) fn turn<S: Alter + Drop>(
 ) -> Result<(), HistoryFault>
     ensures works { Works (λ _ old new. Moves done name.now old new) (state S.Store transaction.old)
         (state S.Store transaction.new) result }
-    ensures left { HasCleanDisk (state S.Store transaction.new) → IsTrue (state S.Store transaction.old).in_transaction
-        → IfErr result (λ e. e ≡ NoActionLeft
-        → actions_of done (rows_at (tables_in (state S.Store transaction.old).now) name.now) ≡ []) }
-    ensures clean { HasCleanDisk (state S.Store transaction.new)
-        → IsTrue (state S.Store transaction.old).in_transaction
-        → CanMove done name.now (tables_in (state S.Store transaction.old).now) → IfErr result (λ e. ¬ IsConflict e) }
+    ensures refused { HasCleanDisk (state S.Store transaction.new)
+        → IsTrue (state S.Store transaction.old).in_transaction → IfErr result (IsTold
+        (actions_of done (rows_at (tables_in (state S.Store transaction.old).now) name.now) ≡ [])
+        (¬ CanMove done name.now (tables_in (state S.Store transaction.old).now))
+        (¬ IsHistory (tables_in (state S.Store transaction.old).now) name.now)) }
 {
     transaction.store_law();
     check_table(alloc, transaction, name)?;
@@ -57,7 +55,7 @@ fn run_changeset<S: Alter + Drop>(
     ensures works { Works (λ _ old new. Runs reverts file.now old new × ((reached : State)
         → Turning reverts file.now old reached → new ≡ reached)) (state S.Store transaction.old)
         (state S.Store transaction.new) result }
-    ensures named { IfErr result (λ e. e ≢ NoActionLeft) }
+    ensures named { IfErr result (IsTold ⊥ (Unit {0}) ⊥) }
     ensures clean { HasCleanDisk (state S.Store transaction.new) → (reached : State)
         → Turning reverts file.now (tables_in (state S.Store transaction.old).now) reached → IfErr result IsOther }
 {
@@ -76,7 +74,7 @@ fn revert_file<S: Alter + Drop>(
     ensures works { Works (λ _ old new. Runs true file.now old new × ((reached : State)
         → Leads file.now reached old → new ≡ reached)) (state S.Store transaction.old)
         (state S.Store transaction.new) result }
-    ensures named { IfErr result (λ e. e ≢ NoActionLeft) }
+    ensures named { IfErr result (IsTold ⊥ (Unit {0}) ⊥) }
     ensures clean { HasCleanDisk (state S.Store transaction.new) → (reached : State)
         → Leads file.now reached (tables_in (state S.Store transaction.old).now) → IfErr result IsOther }
 {
@@ -92,7 +90,7 @@ fn apply_file<S: Alter + Drop>(
     ensures works { Works (λ _ old new. Runs false file.now old new × ((reached : State)
         → Leads file.now old reached → new ≡ reached)) (state S.Store transaction.old)
         (state S.Store transaction.new) result }
-    ensures named { IfErr result (λ e. e ≢ NoActionLeft) }
+    ensures named { IfErr result (IsTold ⊥ (Unit {0}) ⊥) }
     ensures clean { HasCleanDisk (state S.Store transaction.new) → (reached : State)
         → Leads file.now (tables_in (state S.Store transaction.old).now) reached → IfErr result IsOther }
 {

@@ -1,7 +1,7 @@
-//! Histories: actions that insert a row into t, undos and redos in one transaction.
-use crate::rows::{Call, edit_of, end};
+//! Histories: actions that insert a row into t, undos, redos and forgetting in one transaction; and calls on a store.
+use crate::rows::{Call, edit_of, end, store_of};
 use crate::session::{attached, begun};
-use cs_history::{HistoryCall, HistoryFault, act_in_transaction, call_in_transaction};
+use cs_history::{HistoryCall, HistoryFault, act_in_transaction, call, call_in_transaction};
 use cs_session::Session;
 use cs_store::{Edit, Transaction};
 use cs_value::Value;
@@ -18,22 +18,29 @@ enum Step {
     Act(&'static [Value<'static>]),
     /// Changes nothing.
     Rest,
+    /// Makes an edit that is of no action.
+    Edit(Call),
     Call(HistoryCall),
 }
 
 const UNDO: Step = Step::Call(HistoryCall::Undo);
+
 const REDO: Step = Step::Call(HistoryCall::Redo);
 
-// What is left of the actions that are done: two, none, and as many as have 20 bytes, which is one.
+// What is left of the actions that are done: two, none, as many as have 18 bytes, which is one, or less.
 const KEEP_TWO: Step = Step::Call(HistoryCall::Forget {
     keep: 2,
     bytes: u64::MAX,
 });
+
 const KEEP_NONE: Step = Step::Call(HistoryCall::Forget {
     keep: 0,
     bytes: u64::MAX,
 });
-const KEEP_FEW_BYTES: Step = Step::Call(HistoryCall::Forget { keep: 9, bytes: 20 });
+
+const KEEP_FILE: Step = Step::Call(HistoryCall::Forget { keep: 9, bytes: 18 });
+
+const KEEP_LESS: Step = Step::Call(HistoryCall::Forget { keep: 9, bytes: 17 });
 
 const STEPS: &[Expected] = &[
     (UNDO, false, 0),
@@ -59,9 +66,29 @@ const STEPS: &[Expected] = &[
     (UNDO, false, 1),
     (REDO, true, 2),
     (Step::Act(&[Value::Int(4), Value::Null]), true, 3),
-    (KEEP_FEW_BYTES, true, 3),
+    (KEEP_FILE, true, 3),
     (UNDO, true, 2),
     (UNDO, false, 2),
+    (REDO, true, 3),
+    (KEEP_LESS, true, 3),
+    (UNDO, false, 3),
+    (Step::Act(&[Value::Int(5), Value::Null]), true, 4),
+    (Step::Edit(Call::Delete("t", 5)), true, 3),
+    (UNDO, false, 3),
+];
+
+const FORGET: HistoryCall = HistoryCall::Forget { keep: 0, bytes: 0 };
+
+/// Calls on a store with t, each in a transaction of its own: the name of the history, and whether it is accepted.
+const CALLS: &[(&str, HistoryCall, bool)] = &[
+    ("undo", HistoryCall::Undo, false),
+    ("undo", FORGET, false),
+    ("undo", HistoryCall::Open, true),
+    ("undo", HistoryCall::Open, true),
+    ("undo", HistoryCall::Redo, false),
+    ("undo", FORGET, true),
+    ("t", HistoryCall::Open, false),
+    ("t", FORGET, false),
 ];
 
 /// Carries out an edit that a session records, and notes it as an action.
@@ -92,6 +119,10 @@ fn carry_out(
         Step::Rest => {
             act_in_transaction(rt.alloc(), transaction, "undo", "Rest", &session).is_ok()
         }
+        Step::Edit(edit) => {
+            let edit = edit_of(rt, edit);
+            transaction.edit(rt.alloc(), &edit).is_ok()
+        }
         Step::Call(call) => call_in_transaction(rt.alloc(), transaction, "undo", call).is_ok(),
     }
 }
@@ -111,4 +142,15 @@ fn undoes_and_redoes_actions(rt: HostRuntime) {
         assert!(rt; count == step.2, "at {place}");
     }
     end(transaction.roll_back());
+}
+
+#[test]
+fn makes_a_transaction_of_a_call(rt: HostRuntime) {
+    let mut store = store_of(&rt, &[false, false]);
+    for (place, expected) in CALLS.iter().enumerate() {
+        let (next, outcome) = call(rt.alloc(), store, expected.0, expected.1);
+        store = next;
+        assert!(rt; outcome.is_ok() == expected.2, "at {place}");
+    }
+    end(store);
 }

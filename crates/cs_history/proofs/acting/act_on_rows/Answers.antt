@@ -49,7 +49,7 @@ returns-then-is_empty g c =
               λ is.
                   let has = subst (λ (s : State). HasTables s notes) first.1.0 (c.in_ok-changeset.ensures.attached clean) in
                   let changes : recorded_changes notes (tables_in old.now) ≡ [] = ap (recorded_changes notes) (sym first.1.0) ∙ sym (c.in_ok-changeset.ensures.made clean) ∙ none in
-                  (changes, subst (Stays (rewound_state notes (tables_in old.now)) (tables_in old.now)) (sym (second.1 ∙ first.1.0)) (stays (tables_in old.now) notes is c.notes_law.ensures has changes)),
+                  (changes, subst (Stays c.args.name.now (rewound_state notes (tables_in old.now)) (tables_in old.now)) (sym (second.1 ∙ first.1.0)) (stays (tables_in old.now) notes is c.notes_law.ensures has c.args.name.now first.1.1 changes)),
             );
       });
     }
@@ -82,7 +82,7 @@ returns g c =
                   let changes : c.in_ok-changeset.changeset ≡ recorded_changes notes (tables_in old.now) = c.in_ok-changeset.ensures.made was ∙ ap (recorded_changes notes) first.1.0 in
                   let noted = subst (λ (s : State). NotesAction name action s (tables_in new.now)) same (third.1 (subst (λ (s : State). IsHistory s name) (sym second.1) (subst (λ (s : State). IsHistory s name) (sym first.1.0) first.1.1))) in (
                     λ none. some (changes ∙ none),
-                    acts (tables_in old.now) notes is c.notes_law.ensures has name c.args.label.now action noted.mid (tables_in new.now)
+                    acts (tables_in old.now) notes is c.notes_law.ensures has name c.args.label.now first.1.1 action noted.mid (tables_in new.now)
                         (subst (λ (gs : List GroupData). IsNewName gs name) changes c.in_ok-note_changes.ensures.apart) refl (ap file_bytes changes) noted.forgotten.same noted.forgotten.done noted.none noted.added (noted.forgotten.history ∙ sym first.1.1),
                   ),
             );

@@ -12,3 +12,9 @@ returns-in-Redo-clause-works g c = rw c.in-Redo.is c.turn-in-Redo.ensures.works
 
 pub returns-in-Forget-clause-works : goal.returns-in-Forget-clause-works
 returns-in-Forget-clause-works g c = rw c.in-Forget.is c.forget.ensures.works
+
+pub returns-in-Undo-clause-refused : goal.returns-in-Undo-clause-refused
+returns-in-Undo-clause-refused g c = rw c.in-Undo.is c.turn.ensures.refused
+
+pub returns-in-Redo-clause-refused : goal.returns-in-Redo-clause-refused
+returns-in-Redo-clause-refused g c = rw c.in-Redo.is c.turn-in-Redo.ensures.refused

@@ -28,4 +28,4 @@ returns-clause-works g c =
     (λ p q. (q.0 ∙ p.0, p.1, subst (λ (s : State). Keeps c.args.keep c.args.bytes key (rows_at s name)) p.0 (q.1 (subst (λ (s : State). IsHistory s name) (sym p.0) p.1)))) in
     works_on (λ x before after. Forgets c.args.keep c.args.bytes name before after) c.drop_after.result read c.drop_after.ensures.works (λ z p q.
     let dropped = q (subst (λ (s : State). IsHistory s name) (sym p.0) p.1) in
-    forgets key name c.args.keep c.args.bytes (tables_in old.now) (tables_in new.now) (subst (λ (s : State). DropsAfter key name s (tables_in new.now)) p.0 dropped.0) dropped.1 p.2)
+    forgets key name c.args.keep c.args.bytes (tables_in old.now) (tables_in new.now) p.1 (subst (λ (s : State). DropsAfter key name s (tables_in new.now)) p.0 dropped.0) dropped.1 p.2)

@@ -10,8 +10,8 @@ use Rattle.cs_history.specs.declared.fault.HistoryFault.{HistoryFault}
 use Rattle.cs_history.specs.Stored.{IsHistory, action_of, actions_of, rows_of}
 use Rattle.cs_history.specs.Actions.{Moves, Runs}
 use Rattle.cs_history.specs.Moving.{Turning, first_of}
-use Rattle.cs_history.specs.Faults.{IsOther}
-use Rattle.cs_history.proofs.FaultLemmas.{other_clean, passed_on}
+use Rattle.cs_history.specs.Faults.{IsOther, IsTold}
+use Rattle.cs_history.proofs.FaultLemmas.{fault_told, passed_on}
 use Rattle.cs_history.proofs.FirstLemmas.{none_first}
 use Rattle.cs_history.proofs.TurnLemmas.{can_turn, turns}
 use Rattle.cs_history.proofs.WorkLemmas.{refused_then, shown_state, works_err, works_on, works_shown, works_then}
@@ -23,8 +23,8 @@ returns-in_err-row-clause-works g c = works_err c.from_residual-in_err-row.resul
 pub returns-in_default-clause-works : goal.returns-in_default-clause-works
 returns-in_default-clause-works g c = refused_then _ c.in_ok-check_table.ensures.works c.first_row.ensures.works.kept
 
-pub returns-in_default-clause-left : goal.returns-in_default-clause-left
-returns-in_default-clause-left g c clean inside e =
+pub returns-in_default-clause-refused : goal.returns-in_default-clause-refused
+returns-in_default-clause-refused g c clean inside =
     let checked = state g.S.Store c.check_table.new.transaction in
     let read = state g.S.Store c.first_row.new.transaction in
     let name = c.args.name.now in
@@ -39,8 +39,8 @@ returns-in_err-run_changeset-clause-works g c =
     works_err c.from_residual-in_err-run_changeset.result _ c.from_residual-in_err-run_changeset.ensures.1
     (keeps_then (keeps_then c.in_ok-check_table.ensures.works.kept c.in_ok-row.ensures.works.kept) c.run_changeset.ensures.works.kept)
 
-pub returns-in_err-run_changeset-clause-clean : goal.returns-in_err-run_changeset-clause-clean
-returns-in_err-run_changeset-clause-clean g c clean inside can =
+pub returns-in_err-run_changeset-clause-refused : goal.returns-in_err-run_changeset-clause-refused
+returns-in_err-run_changeset-clause-refused g c clean inside =
     let old = state g.S.Store c.args.transaction.now in
     let checked = state g.S.Store c.check_table.new.transaction in
     let read = state g.S.Store c.first_row.new.transaction in
@@ -55,11 +55,13 @@ returns-in_err-run_changeset-clause-clean g c clean inside can =
     let second = c.in_ok-row.ensures.works.made was first.0 in
     let is = shown_state old checked one.kept c.store_law.ensures.holds c.store_law.ensures.inside before inside in
     let is_first = subst (λ (s : State). Some row ≡ first_of done (rows_at s name)) first.1.0 (sym c.in-Some.is ∙ second.1.1 (subst (λ (s : State). IsHistory s name) (sym first.1.0) first.1.1)) in
+    let error = c.in_err-run_changeset.field-0.0 in
+    let passed = c.from_residual-in_err-run_changeset in
+    fault_told _ _ passed.result (passed_on (IsTold ⊥ (Unit {0}) ⊥) passed.result error passed.ensures.1 c.in_err-run_changeset.ensures.named) (λ can.
     let turn = can_turn (tables_in old.now) name is first.1.1 done row is_first can in
     let led = subst (λ (f : List ℕ). Turning done f (tables_in old.now) turn.0) (sym c.in_ok-changeset_of.ensures.content) turn.1 in
     let there = subst (λ (s : State). Turning done c.in_ok-changeset_of.field-0.now s turn.0) (sym (second.1.0 ∙ first.1.0)) led in
-    other_clean c.from_residual-in_err-run_changeset.result
-    (passed_on IsOther c.from_residual-in_err-run_changeset.result c.in_err-run_changeset.field-0.0 c.from_residual-in_err-run_changeset.ensures.1 (c.in_err-run_changeset.ensures.clean clean turn.0 there))
+    passed_on IsOther passed.result error passed.ensures.1 (c.in_err-run_changeset.ensures.clean clean turn.0 there))
 
 pub returns-clause-works : goal.returns-clause-works
 returns-clause-works g c =

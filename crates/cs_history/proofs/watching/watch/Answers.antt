@@ -7,9 +7,7 @@ use Rattle.std.specs.FinMap.{keys}
 use Rattle.std.proofs.lemmas.List.{take_all}
 use Rattle.cs_store.specs.Laws.{keeps_itself, keeps_then, was_clean}
 use Rattle.cs_store.specs.Store.{tables_in}
-use Rattle.cs_session_notes.specs.FirstImages.{Notes}
 use Rattle.cs_history.specs.Watching.{MayAttach, Watches}
-use Rattle.cs_history.proofs.FirstLemmas.{take_none}
 use Rattle.cs_history.proofs.WatchLemmas.{WatchesNames, watches_all, watches_next, watches_none}
 use Rattle.cs_history.proofs.watching.watch.Goals as goal
 

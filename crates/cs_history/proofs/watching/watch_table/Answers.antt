@@ -1,11 +1,11 @@
 -- `watching::watch_table`: what it ensures.
-use Rattle.std.proofs.Common.{◌≡◌, inl, inr, true≢false, Some, sym, ap, subst, ◌∙◌}
+use Rattle.std.proofs.Common.{◌≡◌, inr, true≢false, Some, sym, ap, subst, ◌∙◌}
 use Rattle.sqlite.specs.Held.{state}
-use Rattle.cs_value.specs.State.{SchemaData, State}
+use Rattle.cs_value.specs.State.{State}
 use Rattle.cs_store.specs.Laws.{keeps_then, was_clean}
 use Rattle.cs_store.specs.Store.{tables_in}
 use Rattle.cs_session_notes.specs.Attaching.{Attaches}
-use Rattle.cs_history.specs.Stored.{IsHistory, history_schema}
+use Rattle.cs_history.specs.Stored.{history_schema}
 use Rattle.cs_history.proofs.watching.watch_table.Goals as goal
 
 pub returns-in_err-attach-clause-kept : goal.returns-in_err-attach-clause-kept
