@@ -217,4 +217,4 @@ module _ (old new : sqlite.State) (e : ApplyFault) where
 
   -- its key is not read
   pub tells_short : {X : Type 0} (told : State → X) (why : Refused) → Reads {X = X} (λ tables. Ok (told tables)) old new (Err why) → TellsApply e old new why
-  tells_short told why two = record { kept = two.kept; told = λ clean. inr (short_read told why two clean) }
+  tells_short told why two = record { kept = two.kept; told = λ clean. inr (short_read old new told why two clean) }

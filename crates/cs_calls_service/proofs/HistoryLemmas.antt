@@ -16,10 +16,9 @@ use Rattle.cs_store.proofs.CrashLemmas.{begun_tables, made_tables}
 use Rattle.cs_store.proofs.TransactLemmas.{unbegun_transacts, dropped_transacts, uncommitted_transacts, committed_transacts}
 use Rattle.cs_history.specs.declared.calling.HistoryCall.{HistoryCall}
 use Rattle.cs_history.specs.declared.fault.HistoryFault.{HistoryFault}
-use Rattle.cs_history.specs.declared.fault.HistoryFault.TheVariants.{NothingLeft}
-use Rattle.cs_history.specs.Calls.{CanCall, Does, HasNone}
+use Rattle.cs_history.specs.Calls.{CanCall, Does, HasNone, IsForeign}
 use Rattle.cs_history.specs.Carrying.{Carries}
-use Rattle.cs_history.specs.Faults.{IsConflict}
+use Rattle.cs_history.specs.Faults.{IsTold}
 use Rattle.cs_calls_answers.specs.declared.answer.Answer.TheVariants.{Done}
 use Rattle.cs_calls_answers.specs.declared.answer.Refused.{Refused}
 use Rattle.cs_calls_answers.specs.Spelling.{answer_bytes}
@@ -31,6 +30,9 @@ module _ {S : Type 0} (g : Ghosts S) (settled : (s : S) (trees : Trees) → IsTr
     (last : IsTrue (state g old).is_open → LeavesOnly (λ left. left ≡ tables_in (state g old).committed) (state g old)) (history : List ℕ) (call : HistoryCall) where
   Made : State → State → Type 0
   Made = Does call history
+
+  abbrev Tells : HistoryFault → State → Type 0
+  Tells fault tables = IsTold (HasNone call history tables) (¬ CanCall call history tables) (IsForeign call history tables) fault
 
   -- its transaction does not begin, or nothing was done
   pub unbegun_call : (why : Refused) → IsResource why → KeepsCrash (state g old) (state g new) → (HasCleanDisk (state g new) → KeepsContent (state g old) (state g new)) → CallsAlone history call (state g old) (state g new) (Err why)
@@ -44,10 +46,9 @@ module _ {S : Type 0} (g : Ghosts S) (settled : (s : S) (trees : Trees) → IsTr
   module _ (begun : sqlite.State) (begins : HasCleanDisk begun → Begins (state g old) begun) (starts : KeepsCrash (state g old) begun) where
     -- it is refused in it, what is told is read, and it is rolled back
     pub refused_call : (mid told : sqlite.State) (fault : HistoryFault) (why : Refused) → Carries {X = Unit {0}} (λ x. Does call history) begun mid (Err fault)
-        → (HasCleanDisk mid → IsTrue begun.in_transaction → fault ≡ NothingLeft → HasNone call history (tables_in begun.now))
-        → (HasCleanDisk mid → IsTrue begun.in_transaction → CanCall call history (tables_in begun.now) → ¬ IsConflict fault)
+        → (HasCleanDisk mid → IsTrue begun.in_transaction → Tells fault (tables_in begun.now))
         → TellsHistory history fault mid told why → KeepsCrash told (state g new) → (HasCleanDisk (state g new) → IsUndone told (state g new)) → CallsAlone history call (state g old) (state g new) (Err why)
-    refused_call mid told fault why it left free tells drops undo = record {
+    refused_call mid told fault why it says tells drops undo = record {
       transacts = dropped_transacts g settled stays old new last begun told begins starts (keeps_then it.kept tells.kept) why (Does call history (tables_in (state g old).now)) drops undo;
       done = λ clean. tt;
       refused = λ clean.
@@ -58,8 +59,7 @@ module _ {S : Type 0} (g : Ghosts S) (settled : (s : S) (trees : Trees) → IsTr
           elim tells.told was_told [
             inl is ↦ inl (record {
               fault = fault;
-              left = λ none. subst (HasNone call history) same (left was started.shown.mode none);
-              clean = λ can. free was started.shown.mode (subst (CanCall call history) (sym same) can);
+              told = subst (Tells fault) same (says was started.shown.mode);
               shown = tables_in mid.now;
               same = λ still. shown_same started was mid.in_transaction refl ((tells.kept.commit was_told).was_open ((undo clean).was_open still));
               is = is;

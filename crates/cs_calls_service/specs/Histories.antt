@@ -10,8 +10,8 @@ use Rattle.cs_store.specs.Transacts.{Transacts}
 use Rattle.cs_history.specs.declared.calling.HistoryCall.{HistoryCall}
 use Rattle.cs_history.specs.declared.fault.HistoryFault.{HistoryFault}
 use Rattle.cs_history.specs.declared.fault.HistoryFault.TheVariants as fault
-use Rattle.cs_history.specs.Calls.{CanCall, Does, HasNone}
-use Rattle.cs_history.specs.Faults.{IsConflict}
+use Rattle.cs_history.specs.Calls.{CanCall, Does, HasNone, IsForeign}
+use Rattle.cs_history.specs.Faults.{IsTold}
 use Rattle.cs_calls_answers.specs.declared.answer.Answer.TheVariants.{Done}
 use Rattle.cs_calls_answers.specs.declared.answer.Refused.{Refused}
 use Rattle.cs_calls_answers.specs.Refusals.{plain_refusal, out_of_memory}
@@ -44,12 +44,10 @@ pub record TellsHistory (history : List ℕ) (fault : HistoryFault) (old new : s
 abbrev pub IsWatchRefusal : List ℕ → Refused → Type 0
 IsWatchRefusal history why = (why ≡ of_table 100 history) ⊎ ((error : StoreError) × (why ≡ of_error error))
 
--- It says that no action is left only if none is, and a conflict only if the changeset does not lead back, or on. The key
--- of the conflict is that of the tables, if the store is still open.
+-- It is told as the history tells it. The key of a conflict is that of the tables, if the store is still open.
 pub record RefusesHistory (history : List ℕ) (call : HistoryCall) (old new : sqlite.State) (why : Refused) : Type 0 where
   pub fault : HistoryFault
-  pub left : fault ≡ fault.NothingLeft → HasNone call history (tables_in old.now)
-  pub clean : CanCall call history (tables_in old.now) → ¬ IsConflict fault
+  pub told : IsTold (HasNone call history (tables_in old.now)) (¬ CanCall call history (tables_in old.now)) (IsForeign call history (tables_in old.now)) fault
   pub shown : State
   pub same : IsTrue new.is_open → shown ≡ tables_in old.now
   pub is : why ≡ of_history_fault shown history fault

@@ -14,6 +14,6 @@ pub returns-in-Ok-conflict_refusal : goal.returns-in-Ok-conflict_refusal
 returns-in-Ok-conflict_refusal g c =
     tells_conflict (state g.S.Store c.args.transaction.now) (state g.S.Store c.conflict_refusal.new.transaction) c.args.fault c.in-Err.code c.in-Err.conflict c.in-Err.ensures c.in-Ok-conflict_refusal.refused c.in-Ok-conflict_refusal.ensures
 
-pub returns-in-Err-conflict_refusal : goal.returns-in-Err-conflict_refusal
-returns-in-Err-conflict_refusal g c =
+pub returns : goal.returns
+returns g c =
     tells_short (state g.S.Store c.args.transaction.now) (state g.S.Store c.conflict_refusal.new.transaction) c.args.fault (λ tables. of_conflict c.in-Err.code tables c.in-Err.conflict) c.in-Err-conflict_refusal.refused c.in-Err-conflict_refusal.ensures
