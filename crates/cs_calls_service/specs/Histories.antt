@@ -4,7 +4,6 @@ use Rattle.sqlite.specs.State as sqlite
 use Rattle.sqlite.specs.State.{HasCleanDisk}
 use Rattle.cs_value.specs.State.{State}
 use Rattle.cs_rows.specs.declared.fault.StoreError.{StoreError}
-use Rattle.cs_rows.specs.declared.fault.StoreError.TheVariants.{BadSchema}
 use Rattle.cs_store.specs.Store.{KeepsStore, tables_in}
 use Rattle.cs_store.specs.Transacts.{Transacts}
 use Rattle.cs_history.specs.declared.calling.HistoryCall.{HistoryCall}
@@ -17,14 +16,13 @@ use Rattle.cs_calls_answers.specs.declared.answer.Refused.{Refused}
 use Rattle.cs_calls_answers.specs.Refusals.{plain_refusal, out_of_memory}
 use Rattle.cs_calls_answers.specs.Spelling.{answer_bytes}
 use Rattle.cs_calls_conversions.specs.Conflicts.{of_apply_fault}
-use Rattle.cs_calls_conversions.specs.Refusals.{of_error, of_table}
+use Rattle.cs_calls_conversions.specs.Refusals.{of_declare_error, of_error, of_table}
 use Rattle.cs_calls_executor.specs.Answered.{IsResource}
 use Rattle.cs_calls_service.specs.Noting.{Outcome}
 
 -- why a call of the history of a name is refused
 abbrev pub of_history_fault : State → List ℕ → HistoryFault → Refused
-of_history_fault tables history (fault.Store BadSchema) = of_table 32 history
-of_history_fault tables history (fault.Store error) = of_error error
+of_history_fault tables history (fault.Store error) = of_declare_error history error
 of_history_fault tables history (fault.Apply f) = of_apply_fault tables f
 of_history_fault tables history fault.WrongStore = plain_refusal 51
 of_history_fault tables history fault.NotHistory = of_table 100 history

@@ -1,23 +1,24 @@
 -- A store that answers calls: each in a transaction of its own, or in the one that its host began.
-use Rattle.std.specs.Prelude.{◌≡◌, ◌⊎◌, ℕ, Bool, false, IsTrue, List, [], map, Option, Some, None, option_map, unwrap_or, Result, Ok, Err, IfOk, OnOk, OnErr}
+use Rattle.std.specs.Prelude.{◌≡◌, ◌⊎◌, ℕ, Bool, false, IsTrue, List, [], map, Option, Some, None, option_map, unwrap_or, Result, Ok, Err, IfErr, IfOk, OnOk, OnErr}
 use Rattle.std.specs.declared.alloc.Global.{Global}
 use Rattle.std.specs.declared.vec.Vec.{Vec}
 use Rattle.sqlite_trees.specs.declared.store.Store.{Ghosts}
 use Rattle.sqlite.specs.Held.{state}
 use Rattle.sqlite.specs.State as sqlite
-use Rattle.sqlite.specs.State.{HasCleanDisk}
+use Rattle.sqlite.specs.State.{HasCleanDisk, Survives}
 use Rattle.cs_value.specs.State.{State}
 use Rattle.cs_rows.specs.declared.fault.StoreError.{StoreError}
 use Rattle.cs_rows.specs.Faults as stores
 use Rattle.cs_store.specs.Failing.{BeginFails, CommitFails}
 use Rattle.cs_store.specs.Records.{IsUndone, KeepsContent, KeepsCrash, KeepsOthers}
-use Rattle.cs_store.specs.Crash.{IsAtomic, LeavesOnly}
+use Rattle.cs_store.specs.Crash.{IsAtomic, LeavesOnly, MayLeave}
 use Rattle.cs_store.specs.Store as store
-use Rattle.cs_store.specs.Store.{IsAtRest, IsInside, tables_in}
+use Rattle.cs_store.specs.Store.{IsAtRest, IsInside, KeepsStore, tables_in}
 use Rattle.cs_session_notes.specs.FirstImages.{Notes, recorded, recorded_changes, rewound_state}
 use Rattle.cs_session_notes.specs.Merging.{all_noted, unwritten}
 use Rattle.cs_session_notes.specs.Noting.{AreFormers}
 use Rattle.cs_history.specs.declared.calling.HistoryCall.{HistoryCall}
+use Rattle.cs_history.specs.declared.fault.HistoryFault.{HistoryFault}
 use Rattle.cs_history.specs.Actions.{Notes as NotesAction}
 use Rattle.cs_history.specs.Stored.{IsHistory}
 use Rattle.cs_history.specs.Watching.{Watches}
@@ -27,11 +28,12 @@ use Rattle.cs_calls_answers.specs.Refusals.{plain_refusal, out_of_memory}
 use Rattle.cs_calls_answers.specs.Spelling.{answer_bytes}
 use Rattle.cs_calls_conversions.specs.Refusals.{of_error}
 use Rattle.cs_calls_executor.specs.declared.calls.TableCall.{TableCall}
+use Rattle.cs_calls_executor.specs.Answered.{IsResource}
 use Rattle.cs_calls_service.specs.declared.service.Action.{Action}
 use Rattle.cs_calls_service.specs.declared.service.Service.{Service}
 use Rattle.cs_calls_service.specs.declared.service.Service.TheVariants.{AtRest, InTransaction}
 use Rattle.cs_calls_service.specs.declared.sessions.SessionCall.{SessionCall}
-use Rattle.cs_calls_service.specs.Histories.{CallsAlone, IsWatchRefusal}
+use Rattle.cs_calls_service.specs.Histories.{CallsAlone, IsWatchRefusal, of_history_fault}
 use Rattle.cs_calls_service.specs.Noting.{CarriesAlone, CarriesNoted, Outcome}
 use Rattle.cs_calls_service.specs.Sessions.{CarriesSession, UndoesAlone}
 
@@ -75,17 +77,23 @@ Begins g old result new = ⊥
 
 -- ---- an action of a history begins
 
--- the tables that the history watches are noted apart, if the table of its name is a history
+-- Its transaction shows what the store shows, which is what was committed. The tables that the history watches are noted
+-- apart, and the table of its name is a history.
 pub record BeginsWatched (history : List ℕ) (old new : sqlite.State) (written : Notes) (bytes : Vec ℕ Global) : Type 0 where
   pub done : IsDone bytes
-  pub begun : IsBegun old new
+  pub inside : HasCleanDisk new → IsInside new
+  pub same : HasCleanDisk new → (new.now ≡ old.now) × (new.committed ≡ old.now)
+  pub crash : KeepsCrash old new
+  pub leaves : LeavesOnly (λ left. left ≡ tables_in old.now) new
   pub watches : HasCleanDisk new → Watches (tables_in old.now) written
-  pub history : HasCleanDisk new → IsHistory (tables_in old.now) history
+  pub is_history : HasCleanDisk new → IsHistory (tables_in old.now) history
 
--- it does not, and nothing has changed
+-- it does not begin, and nothing has changed
 pub record IsUnwatched (history : List ℕ) (why : Refused) (old new : sqlite.State) : Type 0 where
   pub refused : IsWatchRefusal history why
-  pub kept : IsKept old new
+  pub crash : KeepsCrash old new
+  pub content : HasCleanDisk new → old.in_transaction ≡ false → (IsTrue old.is_open → old.now ≡ old.committed)
+      → KeepsContent old new
 
 -- it does not while a session is open
 abbrev pub BeginsAction : {S : Type 0} → Ghosts S → Service S → Action → Outcome → Service S → Type 0
@@ -150,16 +158,23 @@ abbrev pub IsActed : Action → Notes → State → State → Type 0
 IsActed action written before after = (noted : Bool) × NotesAction action.history action.label
     (recorded_changes written before) (rewound_state written before) noted before after
 
+-- Why it is not: it has ended, the history refuses what is noted, or memory ran out, or the database refused.
+abbrev pub IsUncommittedAction : Action → sqlite.State → Refused → Type 0
+IsUncommittedAction action old why = IsResource why
+    ⊎ ((why ≡ plain_refusal 97) × (old.in_transaction ≡ false))
+    ⊎ ((shown : State) × (fault : HistoryFault) × (why ≡ of_history_fault shown action.history fault))
+
 -- A transaction that is an action is committed, and what was written in it is noted in its history. Or that is refused,
--- and nothing is committed. It has ended then.
+-- and nothing is committed. It has ended then. A crash leaves what it could leave before, or the tables with the note.
 pub record CommitsAction (action : Action) (written : Notes) (old new : sqlite.State) (result : Outcome) : Type 0 where
   pub done : IfOk result IsDone
-  pub ends : HasCleanDisk new → OnOk result (IsAtRest new × IsActed action written (tables_in old.now) (tables_in new.now))
+  pub refused : HasCleanDisk new → IfErr result (IsUncommittedAction action old)
+  pub at_rest : HasCleanDisk new → OnOk result (IsAtRest new)
+  pub acted : HasCleanDisk new → OnOk result (IsActed action written (tables_in old.now) (tables_in new.now))
   pub others : HasCleanDisk new → OnOk result (KeepsOthers old.committed new.now)
   pub undone : HasCleanDisk new → OnErr result (IsUndone old new)
-  pub atomic : IsAtomic IsInside (IsActed action written (tables_in old.now)) old new
+  pub survives : Survives old new (MayLeave (IsActed action written (tables_in old.now)))
   pub left : OnOk result (LeavesOnly (λ left. left ≡ tables_in new.now) new)
-  pub stands : OnErr result (IsTrue new.is_open → LeavesOnly (λ left. left ≡ tables_in old.committed) new)
 
 abbrev pub Commits : {S : Type 0} → Ghosts S → Service S → Outcome → Service S → Type 0
 Commits g (InTransaction old session written None) result (AtRest new after) = (notes : Notes)

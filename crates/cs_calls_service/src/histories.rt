@@ -7,11 +7,11 @@ ghost use Rattle.cs_calls_service.specs.Service.{BeginsWatched, CommitsAction, I
 
 use crate::service::{Action, done};
 use cs_calls_answers::Refused;
-use cs_calls_conversions::{store_refusal, table_refusal};
+use cs_calls_conversions::{declare_refusal, store_refusal, table_refusal};
 use cs_calls_executor::apply_refusal;
 use cs_history::{HistoryCall, HistoryFault, act_in_transaction, call_in_transaction, watch};
 use cs_session::Session;
-use cs_store::{Store, StoreError, Transaction};
+use cs_store::{Store, Transaction};
 use cs_value::Text;
 use sqlite::Alter;
 use std::alloc::Global;
@@ -26,8 +26,7 @@ fn history_refusal<S: Alter>(
     ensures { TellsHistory history.now fault (state S.Store transaction.old) (state S.Store transaction.new) result }
 {
     match fault {
-        HistoryFault::Store(StoreError::BadSchema) => table_refusal(alloc, 32, history),
-        HistoryFault::Store(error) => store_refusal(error),
+        HistoryFault::Store(error) => declare_refusal(alloc, history, error),
         HistoryFault::Apply(fault) => apply_refusal(alloc, transaction, fault),
         HistoryFault::WrongStore => Refused::plain(51),
         HistoryFault::NotHistory => table_refusal(alloc, 100, history),

@@ -13,4 +13,4 @@ returns-in-Err-unwritten g c = rw c.in-AtRest.is (unbegun_memory c.from.result (
 pub returns-in-Ok-into_transaction : goal.returns-in-Ok-into_transaction
 returns-in-Ok-into_transaction g c =
     let it = c.in-Ok-into_transaction.ensures in
-    rw c.in-AtRest.is (c.in-Ok.ensures.ok, record { begun = it.begun; crash = it.survives; leaves = it.leaves }, refl, c.in-Ok-unwritten.ensures)
+    rw c.in-AtRest.is (c.in-Ok.ensures.ok, record { begun = it.begun; crash = it.survives; leaves = it.leaves }, refl, c.in-Ok-unwritten.ensures, refl)
