@@ -75,6 +75,9 @@ class Terminal:
     def __init__(self, path, editor=None):
         self.child, self.terminal = pty.fork()
         if self.child == 0:
+            # A shell may have the programs that it runs in the background ignore these.
+            for number in (signal.SIGINT, signal.SIGHUP):
+                signal.signal(number, signal.SIG_DFL)
             os.execv(editor or EDITOR, ["editor", str(path)])
         self.expect()
 
